@@ -1,0 +1,14 @@
+pub mod Lists
+pub mod Streams
+pub mod Chain
+pub mod Ring
+pub mod Picker
+pub mod Step
+pub mod Bridge
+pub mod Round
+pub mod Use
+pub mod Door
+pub mod Record
+pub mod Refusals
+pub mod Entries
+pub mod Program

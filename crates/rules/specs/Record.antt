@@ -1,0 +1,34 @@
+-- Record. "Big-endian. Byte 0 is the version, 1. Bytes 1 to 4 are the length in bytes of the rest. Then per corner 4 bytes east and 4 bytes north, two's
+-- complement, ring order. Length 0 is the empty ring."
+-- Assumes nothing.
+use mathlib.Core.Bool.{Bool, cond}
+use mathlib.Core.List.{List, [], _∷_}
+use Prim.Native.Nat.{ℕ, zero, suc, _+_, _-_, _*_, _^_}
+use lib.IntN.{ℤ, pos, negsuc}
+use lib.Dec.{ltb}
+use lib.ListN.{getD, drop}
+use Rattle.rules.specs.Streams.{Stream, stream}
+
+-- four bytes as a number, the first the highest
+abbrev pub big-endian : ℕ → ℕ → ℕ → ℕ → ℕ
+big-endian a b c d = ((a * 256 + b) * 256 + c) * 256 + d
+
+-- the four bytes at a place
+unfoldable pub word : List ℕ → ℕ → ℕ
+word bs i = big-endian (getD bs i 0) (getD bs (i + 1) 0) (getD bs (i + 2) 0) (getD bs (i + 3) 0)
+
+-- a 32-bit number in two's complement
+unfoldable pub twos : ℕ → ℤ
+twos w = cond (ltb w (2 ^ 31)) (pos w) (negsuc (2 ^ 32 - 1 - w))
+
+abbrev pub version : List ℕ → ℕ
+version bs = getD bs 0 0
+
+-- the length in bytes of the rest, as the record says it
+abbrev pub said-length : List ℕ → ℕ
+said-length bs = word bs 1
+
+-- the first n corners from a place on
+unfoldable pub corners-at : ℕ → List ℕ → ℕ → List Stream
+corners-at zero bs i = []
+corners-at (suc n) bs i = stream (twos (word bs i)) (twos (word bs (i + 4))) ∷ corners-at n bs (i + 8)

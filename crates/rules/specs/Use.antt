@@ -1,0 +1,69 @@
+-- Using a ring. "A ring comes as two lists, east and north, and is an envelope exactly if it equals the ring of its own positions."
+-- Assumes nothing.
+use mathlib.Core.Bool.{Bool, true, false, cond, _&&_}
+use mathlib.Core.List.{List, [], _∷_, _++_, map}
+use Prim.Native.Nat.{ℕ, zero, suc, _+_}
+use lib.IntN.{ℤ, pos, _+ℤ_, _*ℤ_}
+use lib.Signed.{leZ, ltZ}
+use lib.Dec.{leb, ltb, eqb}
+use lib.ListN.{length}
+use Rattle.rules.specs.Lists.{alike, best-from, first-place, all-of}
+use Rattle.rules.specs.Streams.{Stream, stream, same, turned, side, eqZ}
+use Rattle.rules.specs.Ring.{ring}
+
+unfoldable pub envelope : List Stream → Bool
+envelope r = alike same (ring r) r
+
+-- ---- ring hand
+
+-- "made for m corners .. starts at place 0"
+pub record HandAt : Type 0 where
+  pub count : ℕ
+  pub place : ℕ
+
+abbrev pub hand-for : ℕ → HandAt
+hand-for m = record { count = m; place = zero }
+
+-- "the present edge as two places": this place and the next, "place 0 after m - 1"
+abbrev pub next-place : HandAt → ℕ
+next-place h = cond (eqb (h .place + 1) (h .count)) zero (h .place + 1)
+
+-- "the hand one place on"
+abbrev pub moved-on : HandAt → HandAt
+moved-on h = record { count = h .count; place = next-place h }
+
+-- ---- strongest set
+
+-- how strong a stream sets on the course (x, y)
+unfoldable pub set-on : ℤ → ℤ → Stream → ℤ
+set-on x y s = x *ℤ s .east +ℤ y *ℤ s .north
+
+-- "greatest x·east + y·north": that of the corner that no other beats
+unfoldable pub strongest : ℤ → ℤ → Stream → List Stream → ℤ
+strongest x y p ps = set-on x y (best-from (λ s t. ltZ (set-on x y t) (set-on x y s)) p ps)
+
+-- "the first ring place that has it"
+unfoldable pub strongest-place : ℤ → ℤ → Stream → List Stream → ℕ
+strongest-place x y p ps = first-place (λ s. eqZ (set-on x y s) (strongest x y p ps)) (p ∷ ps)
+
+-- ---- cover test
+
+-- the stream lies strictly inside every edge from p on over the corners, and back to the first
+unfoldable pub inside : Stream → Stream → Stream → List Stream → Bool
+inside s first p [] = ltZ (side p first s) (pos 0)
+inside s first p (q ∷ ps) = ltZ (side p q s) (pos 0) && inside s first q ps
+
+-- "yes exactly if the ring has three corners or more and the stream lies strictly inside every edge"
+unfoldable pub covers : List Stream → Stream → Bool
+covers [] s = false
+covers (p ∷ ps) s = leb 3 (length (p ∷ ps)) && inside s p p ps
+
+-- ---- join and turn about
+
+-- "the ring of both rings' positions"
+unfoldable pub join : List Stream → List Stream → List Stream
+join r t = ring (r ++ t)
+
+-- "the ring of all positions with both signs changed"
+unfoldable pub turn-about : List Stream → List Stream
+turn-about r = ring (map turned r)

@@ -1,0 +1,120 @@
+-- The soundings that the rules mark P, as one table under a single claim, computed from the definitions; and the rules' text example with its output.
+-- Assumes nothing.
+use mathlib.Core.Path.{_≡_, refl}
+use mathlib.Core.Bool.{Bool, true, false}
+use mathlib.Core.Option.{Option, none, some}
+use mathlib.Core.List.{List, [], _∷_, _++_, map}
+use Prim.Native.Nat.{ℕ}
+use lib.IntN.{ℤ, pos, negsuc}
+use lib.ListN.{replicate}
+use Rattle.rules.specs.Lists.{those, some-of, all-of, first-place, best-from, best, insert, sorted, alike}
+use Rattle.rules.specs.Streams.{Stream, stream, streams, sample, within, beyond, same, side}
+use Rattle.rules.specs.Chain.{leftmost, rightmost, left-end, right-end, furthest-round, next-corner, corners, upper, lower, lowest, upper-numbers, lower-numbers}
+use Rattle.rules.specs.Ring.{closed, ring}
+use Rattle.rules.specs.Picker.{ranked, rank}
+use Rattle.rules.specs.Step.{cut, left-list, right-list, first-list, cut-bridge, steps, chain-by-steps}
+use Rattle.rules.specs.Bridge.{Bridge, ends, edge-over, bridge, spans, reported}
+use Rattle.rules.specs.Round.{Said, found, kept, slope-le, height, middle-slope, paired, slopes, keep, left-top, right-top, round-with, round, rounds}
+use Rattle.rules.specs.Use.{envelope, set-on, strongest, strongest-place, inside, covers, join, turn-about}
+use Rattle.rules.specs.Refusals.{Answer, refused, done}
+use Rattle.rules.specs.Entries.{Strongest, bridge-answer, round-answer, strongest-answer, cover-answer}
+use Rattle.rules.specs.Program.{decimal, unsigned, number, cut-at, line, text, samples, digits, printed-natural, printed-whole, printed-corners, printed, program}
+
+-- ---- input A, and enough scratch for it
+
+abbrev pub A-easts : List ℤ
+A-easts = pos 0 ∷ pos 4 ∷ pos 4 ∷ pos 0 ∷ pos 2 ∷ pos 2 ∷ pos 4 ∷ []
+
+abbrev pub A-norths : List ℤ
+A-norths = pos 0 ∷ pos 0 ∷ pos 3 ∷ pos 3 ∷ pos 1 ∷ pos 5 ∷ pos 0 ∷ []
+
+abbrev pub A-scratch : List ℕ
+A-scratch = replicate 176 7
+
+unfoldable pub A : List Stream
+A = streams A-easts A-norths
+
+-- the ring of A
+unfoldable pub A-ring : List Stream
+A-ring = stream (pos 0) (pos 3) ∷ stream (pos 2) (pos 5) ∷ stream (pos 4) (pos 3) ∷ stream (pos 4) (pos 0) ∷ stream (pos 0) (pos 0) ∷ []
+
+abbrev pub A-ring-easts : List ℤ
+A-ring-easts = pos 0 ∷ pos 2 ∷ pos 4 ∷ pos 4 ∷ pos 0 ∷ []
+
+abbrev pub A-ring-norths : List ℤ
+A-ring-norths = pos 3 ∷ pos 5 ∷ pos 3 ∷ pos 0 ∷ pos 0 ∷ []
+
+-- a round over samples of A, into an output of four
+unfoldable pub A-round : List ℕ → ℤ → Answer (Said ℕ)
+A-round list a = round-answer A-easts A-norths list a (replicate 4 9) A-scratch
+
+-- P9's two rings
+unfoldable pub tall : List Stream
+tall = stream (pos 2) (pos 5) ∷ stream (pos 2) (pos 1) ∷ []
+
+unfoldable pub flat : List Stream
+flat = stream (pos 0) (pos 0) ∷ stream (pos 4) (pos 0) ∷ []
+
+unfoldable pub three : List Stream
+three = stream (pos 0) (pos 0) ∷ stream (pos 2) (pos 5) ∷ stream (pos 4) (pos 0) ∷ []
+
+-- ---- the table
+
+pub record Soundings : Type 0 where
+  pub P1 : upper-numbers A ≡ 3 ∷ 5 ∷ 2 ∷ []
+  pub P2 : lower-numbers A ≡ 0 ∷ 1 ∷ []
+  pub P3 : bridge-answer A-easts A-norths (pos 2) A-scratch ≡ done (ends 5 2)
+  pub P4 : bridge-answer A-easts A-norths (pos 1) A-scratch ≡ done (ends 3 5)
+  pub P5 : bridge-answer A-easts A-norths (pos 4) A-scratch ≡ refused 6 0
+  pub P6 : A-round (3 ∷ 4 ∷ 5 ∷ 2 ∷ []) (pos 1) ≡ done (kept (3 ∷ 5 ∷ []))
+  pub P7 : A-round (3 ∷ 4 ∷ 5 ∷ 2 ∷ []) (pos 2) ≡ done (found (ends 5 2))
+  pub P8 : A-round (3 ∷ 0 ∷ 1 ∷ 2 ∷ []) (pos 2) ≡ done (kept (3 ∷ 2 ∷ []))
+  pub P9 : join (ring tall) (ring flat) ≡ three
+  pub P10 : turn-about three ≡ stream (negsuc 3) (pos 0) ∷ stream (pos 0) (pos 0) ∷ stream (negsuc 1) (negsuc 4) ∷ []
+  pub P11 : strongest-answer A-ring-easts A-ring-norths (negsuc 0) (pos 1) ≡ done (record { set = pos 3; place = 0 })
+  pub P12 : cover-answer A-ring-easts A-ring-norths (pos 2) (pos 1) ≡ done true
+
+pub soundings : Soundings
+unfolding A A-ring A-round tall flat three those some-of all-of first-place best-from best insert sorted alike streams within beyond same side leftmost rightmost left-end right-end furthest-round next-corner corners upper lower lowest upper-numbers lower-numbers closed ring ranked rank edge-over bridge spans reported slope-le height middle-slope paired slopes keep left-top right-top round-with round envelope set-on strongest strongest-place inside covers join turn-about bridge-answer round-answer strongest-answer cover-answer
+soundings =
+    record {
+      P1 = refl;
+      P2 = refl;
+      P3 = refl;
+      P4 = refl;
+      P5 = refl;
+      P6 = refl;
+      P7 = refl;
+      P8 = refl;
+      P9 = refl;
+      P10 = refl;
+      P11 = refl;
+      P12 = refl;
+    }
+
+-- A's ring is the one that P11 and P12 are read off, and it is an envelope
+pub A-has-its-ring : (ring A ≡ A-ring) × (envelope A-ring ≡ true) × (streams A-ring-easts A-ring-norths ≡ A-ring)
+unfolding A A-ring those some-of all-of first-place best-from best alike streams same side leftmost left-end furthest-round next-corner corners upper lower closed ring envelope
+A-has-its-ring = (refl, refl, refl)
+
+-- the steps' recursion gives A's chain
+pub A-by-steps : chain-by-steps A ≡ some (stream (pos 0) (pos 3) ∷ stream (pos 2) (pos 5) ∷ stream (pos 4) (pos 3) ∷ [])
+unfolding A those some-of first-place best-from best insert sorted streams same side leftmost rightmost left-end right-end furthest-round next-corner corners upper edge-over bridge ranked rank cut left-list right-list first-list cut-bridge steps chain-by-steps
+A-by-steps = refl
+
+-- ---- the program
+
+-- the text of input A
+unfoldable pub A-text : List ℕ
+A-text =
+    48 ∷ 32 ∷ 48 ∷ 10 ∷ 52 ∷ 32 ∷ 48 ∷ 10 ∷ 52 ∷ 32 ∷ 51 ∷ 10 ∷ 48 ∷ 32 ∷ 51 ∷ 10 ∷ 50 ∷ 32 ∷ 49 ∷ 10 ∷ 50 ∷ 32 ∷ 53 ∷ 10 ∷ 52 ∷ 32 ∷ 48 ∷ 10 ∷ []
+
+-- "ring 5", then the five corners; "ring 0"; "refused 15 3" for a third line that is bad
+pub record Texts : Type 0 where
+  pub whole : program A-text ≡ 114 ∷ 105 ∷ 110 ∷ 103 ∷ 32 ∷ 53 ∷ 10 ∷ 48 ∷ 32 ∷ 51 ∷ 10 ∷ 50 ∷ 32 ∷ 53 ∷ 10 ∷ 52 ∷ 32 ∷ 51 ∷ 10 ∷ 52 ∷ 32 ∷ 48 ∷ 10 ∷ 48 ∷ 32 ∷ 48 ∷ 10 ∷ []
+  pub empty : program [] ≡ 114 ∷ 105 ∷ 110 ∷ 103 ∷ 32 ∷ 48 ∷ 10 ∷ []
+  pub third : program (49 ∷ 32 ∷ 49 ∷ 10 ∷ 50 ∷ 32 ∷ 50 ∷ 10 ∷ 45 ∷ 48 ∷ 32 ∷ 50 ∷ 10 ∷ []) ≡ 114 ∷ 101 ∷ 102 ∷ 117 ∷ 115 ∷ 101 ∷ 100 ∷ 32 ∷ 49 ∷ 53 ∷ 32 ∷ 51 ∷ 10 ∷ []
+
+pub texts : Texts
+unfolding A-text those some-of all-of first-place best-from best within beyond same side leftmost left-end furthest-round next-corner corners upper lower closed ring decimal unsigned number cut-at line text samples digits printed-natural printed-whole printed-corners printed program
+texts = record { whole = refl; empty = refl; third = refl }
