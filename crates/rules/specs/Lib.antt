@@ -12,3 +12,4 @@ pub mod Record
 pub mod Refusals
 pub mod Entries
 pub mod Program
+pub mod Soundings

@@ -1,4 +1,5 @@
--- The soundings that the rules mark P, as one table under a single claim, computed from the definitions; and the rules' text example with its output.
+-- The soundings that the rules mark P, as one table under a single claim, computed from the definitions; the rules' easy slips, each shut out by an
+-- example; and the rules' text example with its output.
 -- Assumes nothing.
 use mathlib.Core.Path.{_≡_, refl}
 use mathlib.Core.Bool.{Bool, true, false}
@@ -7,18 +8,18 @@ use mathlib.Core.List.{List, [], _∷_, _++_, map}
 use Prim.Native.Nat.{ℕ}
 use lib.IntN.{ℤ, pos, negsuc}
 use lib.ListN.{replicate}
 use Rattle.rules.specs.Lists.{those, some-of, all-of, first-place, best-from, best, insert, sorted, alike}
 use Rattle.rules.specs.Streams.{Stream, stream, streams, sample, within, beyond, same, side}
 use Rattle.rules.specs.Chain.{leftmost, rightmost, left-end, right-end, furthest-round, next-corner, corners, upper, lower, lowest, upper-numbers, lower-numbers}
 use Rattle.rules.specs.Ring.{closed, ring}
 use Rattle.rules.specs.Picker.{ranked, rank}
 use Rattle.rules.specs.Step.{cut, left-list, right-list, first-list, cut-bridge, steps, chain-by-steps}
 use Rattle.rules.specs.Bridge.{Bridge, ends, edge-over, bridge, spans, reported}
-use Rattle.rules.specs.Round.{Said, found, kept, slope-le, height, middle-slope, paired, slopes, keep, left-top, right-top, round-with, round, rounds}
+use Rattle.rules.specs.Round.{Slope, Said, found, kept, slope-le, height, middle-slope, paired, slopes, keep, left-top, right-top, round-with, round, rounds}
 use Rattle.rules.specs.Use.{envelope, set-on, strongest, strongest-place, inside, covers, join, turn-about}
 use Rattle.rules.specs.Refusals.{Answer, refused, done}
 use Rattle.rules.specs.Entries.{Strongest, bridge-answer, round-answer, strongest-answer, cover-answer}
 use Rattle.rules.specs.Program.{decimal, unsigned, number, cut-at, line, text, samples, digits, printed-natural, printed-whole, printed-corners, printed, program}
 
 -- ---- input A, and enough scratch for it
 
@@ -92,15 +93,40 @@ soundings =
       P12 = refl;
     }
 
--- A's ring is the one that P11 and P12 are read off, and it is an envelope
-pub A-has-its-ring : (ring A ≡ A-ring) × (envelope A-ring ≡ true) × (streams A-ring-easts A-ring-norths ≡ A-ring)
+-- the ring that P11 and P12 are read off is an envelope, as two lists
+pub A-ring-stands : (envelope A-ring ≡ true) × (streams A-ring-easts A-ring-norths ≡ A-ring)
 unfolding A A-ring those some-of all-of first-place best-from best alike streams same side leftmost left-end furthest-round next-corner corners upper lower closed ring envelope
-A-has-its-ring = (refl, refl, refl)
+A-ring-stands = (refl, refl)
 
 -- the steps' recursion gives A's chain
 pub A-by-steps : chain-by-steps A ≡ some (stream (pos 0) (pos 3) ∷ stream (pos 2) (pos 5) ∷ stream (pos 4) (pos 3) ∷ [])
 unfolding A those some-of first-place best-from best insert sorted streams same side leftmost rightmost left-end right-end furthest-round next-corner corners upper edge-over bridge ranked rank cut left-list right-list first-list cut-bridge steps chain-by-steps
 A-by-steps = refl
+
+-- ---- easy slips
+
+-- three streams on one line
+unfoldable pub flush : List Stream
+flush = stream (pos 0) (pos 0) ∷ stream (pos 1) (pos 1) ∷ stream (pos 2) (pos 2) ∷ []
+
+abbrev pub fraction-of : ℕ → ℕ → Slope
+fraction-of n d = record { rise = pos n; run = pos d }
+
+pub record Slips : Type 0 where
+  -- "taking the right middle of an even list: with t = 2 no sample is above a"
+  pub left-middle : cut (stream (pos 7) (pos 0) ∷ stream (pos 3) (pos 0) ∷ []) ≡ pos 3
+  -- "1/3 and 333,333/1,000,000 are not equal"
+  pub undivided : slope-le (fraction-of 1 3) (fraction-of 333333 1000000) ≡ false
+  -- "(0,0), (1,1), (2,2) has two corners"
+  pub no-flush : ring flush ≡ stream (pos 0) (pos 0) ∷ stream (pos 2) (pos 2) ∷ []
+  -- "turning about by swapping the chains without reversing them"
+  pub reversed : turn-about A-ring ≡ stream (negsuc 3) (pos 0) ∷ stream (pos 0) (pos 0) ∷ stream (pos 0) (negsuc 2) ∷ stream (negsuc 1) (negsuc 4) ∷ stream (negsuc 3) (negsuc 2) ∷ []
+  -- "closing a ring without its vertical side: A would lose (4,0) and (0,0)"
+  pub with-sides : ring A ≡ A-ring
+
+pub slips : Slips
+unfolding A A-ring flush those some-of all-of first-place best-from best insert sorted streams same side leftmost rightmost left-end right-end furthest-round next-corner corners upper lower closed ring ranked rank cut slope-le turn-about
+slips = record { left-middle = refl; undivided = refl; no-flush = refl; reversed = refl; with-sides = refl }
 
 -- ---- the program
 
