@@ -1,3 +1,4 @@
 pub mod Linear
 pub mod Laws
 pub mod Solver
+pub mod Certificate

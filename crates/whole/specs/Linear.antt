@@ -5,7 +5,6 @@ use mathlib.Core.Logic.{_≢_, _⊎_, inl, inr, ⊎-elim}
 use mathlib.Core.Bool.{Bool, true, false, not, cond}
 use Prim.Native.Nat.{ℕ, zero, suc, _+_, _*_, _-_, _≤_, _<_}
 use native.Mathlib.Omega.{arith}
-use native.Mathlib.Nat.{mul-zero, zero-mul}
 use lib.Dec.{T, leb, ltb, ltb→lt, nltb→le, le→leb, lt→ltb, leb→le, nleb→lt, T-not}
 use lib.IntN.{ℤ, pos, negsuc, negℤ, subℕ, _+ℤ_, _-ℤ_, _*ℤ_}
 use lib.Signed.{ltZ, leZ, _≤ℤ_, _<ℤ_, ltZ-yes, leZ-yes, ≤ℤ-refl}
@@ -129,6 +128,11 @@ negation (negsuc n) = (refl, refl)
 pub difference : (a b : ℤ) → up (a -ℤ b) + (dn a + up b) ≡ up a + dn b + dn (a -ℤ b)
 difference a b = omega (arith, sum a (negℤ b), negation b)
 
+-- a number's multiple: `multiple 3 a`
+pub multiple : (n : ℕ) (a : ℤ) → up (pos n *ℤ a) + n * dn a ≡ n * up a + dn (pos n *ℤ a)
+multiple n (pos m) = omega arith
+multiple n (negsuc m) = omega (arith, negation (pos (n * suc m)))
+
 -- ---- examples
 chain : (a b c d : ℤ) → a ≤ℤ b → b <ℤ c → c ≤ℤ d → a <ℤ d
 chain a b c d p q r = omega order
@@ -153,3 +157,6 @@ tested a b c p q r = omega order
 
 listed : (a b : ℤ) → (a +ℤ b) ≤ℤ b → a ≤ℤ pos 0
 listed a b h = omega (order, sum a b, ≤ℤ-refl b)
+
+halved : (a b : ℤ) → (pos 2 *ℤ a) <ℤ (pos 2 *ℤ b +ℤ pos 1) → a ≤ℤ b
+halved a b h = omega (order, multiple 2 a, multiple 2 b, sum (pos 2 *ℤ b) (pos 1))
