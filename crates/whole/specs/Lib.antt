@@ -1,1 +1,5 @@
+pub mod Linear
 pub mod Laws
+pub mod Solver
+pub mod Certificate
+pub mod Fits
