@@ -5,7 +5,7 @@ use mathlib.Core.Bool.{Bool, true, false, _&&_, not}
 use mathlib.Core.List.{List, [], _∷_}
 use Prim.Native.Nat.{ℕ}
 use lib.IntN.{ℤ, pos, negℤ, natAbs, _+ℤ_, _-ℤ_, _*ℤ_}
-use lib.Signed.{leZ}
+pub use Rattle.whole.specs.Laws.{eqZ}
 use lib.Dec.{leb}
 use lib.ListN.{getD}
 use Rattle.rules.specs.Lists.{some-of, first-place}
@@ -45,9 +45,6 @@ unfoldable pub beyond : Stream → Bool
 beyond p = not (within (p .east) && within (p .north))
 
 -- ---- position
-
-abbrev pub eqZ : ℤ → ℤ → Bool
-eqZ a b = leZ a b && leZ b a
 
 -- two streams stand at one position
 unfoldable pub same : Stream → Stream → Bool

@@ -130,8 +130,10 @@ module _ (w : Width) {ρ : List ℤ} {βs : List ℕ} (l : Leaves ρ βs) where
     where
       both : T (safe w βs a && safe w βs b)
       both = and-right x (safe w βs a && safe w βs b) t
+
       ta : T (safe w βs a)
       ta = and-left (safe w βs a) (safe w βs b) both
+
       tb : T (safe w βs b)
       tb = and-right (safe w βs a) (safe w βs b) both
 

@@ -2,13 +2,13 @@
 -- two orders, and what the Boolean tests of order and equality mean. Assumes nothing.
 use mathlib.Core.Path.{_≡_, refl, sym, ap, _∙_, subst, _≡⟨_⟩_, _∎}
 use mathlib.Core.Logic.{_≢_, _⊎_, inl, inr, ⊎-elim}
-use mathlib.Core.Bool.{Bool, true, false, not}
+use mathlib.Core.Bool.{Bool, true, false, not, _&&_}
 use Prim.Native.Nat.{ℕ, zero, suc, _+_, _*_, _≤_, _<_, zero-le, suc-le-suc}
 use native.Mathlib.Nat.{mul-pos}
 use native.Mathlib.Omega.{arith}
 use lib.Dec.{T, T-not, not-T, leb, ltb, eqb, eqb→eq, eqb-refl, le→leb, lt→ltb, ltb→lt}
 use lib.IntN.{ℤ, pos, negsuc, negℤ, sucℤ, predℤ, _+ℤ_, _-ℤ_, _*ℤ_, sucℤ-+ℤ, predℤ-+ℤ, sucℤ-*ℤ, predℤ-*ℤ, +ℤ-assoc, +ℤ-comm, +ℤ-idl, +ℤ-idr, +ℤ-invl, +ℤ-negℤ-cancel, zero-*ℤ, *ℤ-comm}
-use lib.Signed.{ltZ, leZ, _≤ℤ_, _<ℤ_, ltZ-yes, leZ-yes, ltZ-no}
+use lib.Signed.{ltZ, leZ, _≤ℤ_, _<ℤ_, ltZ-yes, leZ-yes, ltZ-no, ≤ℤ-refl}
 use Rattle.whole.specs.Linear.{up, dn, order, sum, difference, negation, prove-le, prove-lt, prove-eq, read-lt-true, read-le-true, read-lt-false, read-le-false}
 
 -- ---- the ring
@@ -232,22 +232,19 @@ nlt-test {a} {b} h = is-false (ltZ a b) (λ t. let g : a <ℤ b = ltZ-yes t in o
 pub leZ-not-ltZ : (a b : ℤ) → leZ a b ≡ not (ltZ b a)
 leZ-not-ltZ a b = ⊎-elim (λ h. le-test h ∙ sym (ap not (nlt-test h))) (λ h. nle-test h ∙ sym (ap not (lt-test h))) (≤ℤ-total a b)
 
--- equality as a test
+-- equality as a test: neither is beyond the other
 abbrev pub eqZ : ℤ → ℤ → Bool
-eqZ (pos a) (pos b) = eqb a b
-eqZ (pos a) (negsuc b) = false
-eqZ (negsuc a) (pos b) = false
-eqZ (negsuc a) (negsuc b) = eqb a b
+eqZ a b = leZ a b && leZ b a
+
+both-hold : (s t : Bool) → T (s && t) → T s × T t
+both-hold true t p = (tt, p)
+both-hold false t p = absurd p
 
 pub eqZ-yes : (a b : ℤ) → T (eqZ a b) → a ≡ b
-eqZ-yes (pos a) (pos b) t = ap pos (eqb→eq a b t)
-eqZ-yes (pos a) (negsuc b) t = absurd t
-eqZ-yes (negsuc a) (pos b) t = absurd t
-eqZ-yes (negsuc a) (negsuc b) t = ap negsuc (eqb→eq a b t)
+eqZ-yes a b t = let h = both-hold (leZ a b) (leZ b a) t in ≤ℤ-antisym (leZ-yes (h .0)) (leZ-yes (h .1))
 
 pub eqZ-refl : (a : ℤ) → T (eqZ a a)
-eqZ-refl (pos a) = eqb-refl a
-eqZ-refl (negsuc a) = eqb-refl a
+eqZ-refl a = subst (λ (t : Bool). T (t && t)) (sym (le-test (≤ℤ-refl a))) tt
 
 pub eqZ-no : (a b : ℤ) → T (not (eqZ a b)) → a ≢ b
 eqZ-no a b t e = T-not (eqZ a b) t (subst (λ (x : ℤ). T (eqZ a x)) e (eqZ-refl a))
