@@ -209,11 +209,11 @@ test-lt a b e = omega order
 pub test-nlt : (a b : ℤ) → ltZ a b ≡ false → b ≤ℤ a
 test-nlt a b e = omega order
 
-is-true : (t : Bool) → T t → t ≡ true
+pub is-true : (t : Bool) → T t → t ≡ true
 is-true true p = refl
 is-true false p = absurd p
 
-is-false : (t : Bool) → (T t → ⊥) → t ≡ false
+pub is-false : (t : Bool) → (T t → ⊥) → t ≡ false
 is-false true f = absurd (f tt)
 is-false false f = refl
 
