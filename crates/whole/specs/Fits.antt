@@ -67,12 +67,15 @@ pub at-least : {z : ℤ} {B : ℕ} → Within z B → negℤ (pos B) ≤ℤ z
 at-least {z = pos n} {B} h = omega (order, negation (pos B))
 at-least {z = negsuc n} {B} h = let g = h .within in omega (order, negation (pos B))
 
--- a word of width w that is read back is the number that it was written for; so is a number that was cast from w
-pub held : (w : Width) (z : ℤ) → mag z < 2 ^ hbits w → toZ w (ofZ w z) ≡ z
-held w z h = F.toZ-ofZ (record { sfits = h })
+-- what a width holds, and a number that was cast from it: `cast f`, or with a bound of its own, `cast-within f h`
+pub within-width : {w : Width} {z : ℤ} → SFits w z → Within z (2 ^ hbits w)
+within-width {z} f = within-mag z (f .sfits)
 
-pub cast : (w : Width) {z : ℤ} {B : ℕ} → mag z < 2 ^ hbits w → Within z B → Held (toZ w (ofZ w z)) z B
-cast w {z} h n = record { same = held w z h; near = n }
+pub cast-within : {w : Width} {z : ℤ} {B : ℕ} → SFits w z → Within z B → Held (toZ w (ofZ w z)) z B
+cast-within f h = record { same = F.toZ-ofZ f; near = h }
+
+pub cast : {w : Width} {z : ℤ} → SFits w z → Held (toZ w (ofZ w z)) z (2 ^ hbits w)
+cast f = cast-within f (within-width f)
 
 abs-neg : (a : ℤ) → natAbs (negℤ a) ≡ natAbs a
 abs-neg (pos zero) = refl
@@ -129,6 +132,19 @@ step w σ (⊝ a) = pos 0 -ℤ toZ w (ofZ w (step w σ a))
 
 abbrev pub word : Width → List ℤ → Ex → ℤ
 word w σ e = toZ w (ofZ w (step w σ e))
+
+-- the words that a call is given, and their values
+abbrev pub words : Width → List ℤ → List Ex → List ℤ
+words w σ [] = []
+words w σ (e ∷ es) = word w σ e ∷ words w σ es
+
+abbrev pub values : List ℤ → List Ex → List ℤ
+values ρ [] = []
+values ρ (e ∷ es) = eval ρ e ∷ values ρ es
+
+abbrev pub all-safe : Width → List ℕ → List Ex → Bool
+all-safe w βs [] = true
+all-safe w βs (e ∷ es) = safe w βs e && all-safe w βs es
 
 -- ---- the laws
 leaf-within : {σ ρ : List ℤ} {βs : List ℕ} → Leaves σ ρ βs → (i : ℕ) → natAbs (getD ρ i (pos 0)) ≤ getD βs i 0
@@ -213,6 +229,15 @@ module _ (w : Width) {σ ρ : List ℤ} {βs : List ℕ} (l : Leaves σ ρ βs) 
   -- THE LAW for a result: the word holds the value. `word-is w64 l e tt`
   pub word-is : (e : Ex) → T (safe w βs e) → word w σ e ≡ eval ρ e
   word-is e t = back e t (step-is e t)
+
+  -- so the word is within the bound
+  pub word-within : (e : Ex) → T (safe w βs e) → Within (word w σ e) (bound βs e)
+  word-within e t = within-≡ (word-is e t) (value-within l e)
+
+  -- what a call ensures is said of the words that it was given: `c .f .ensures ∙ ap (λ (ρ : List ℤ). eval ρ e) (words-are w64 l es tt)`
+  pub words-are : (es : List Ex) → T (all-safe w βs es) → words w σ es ≡ values ρ es
+  words-are [] t = refl
+  words-are (e ∷ es) t = ap₂ _∷_ (word-is e (and-left (safe w βs e) (all-safe w βs es) t)) (words-are es (and-right (safe w βs e) (all-safe w βs es) t))
 
   -- a comparison of two words compares the values
   pub lt-is : (a b : Ex) → T (safe w βs a) → T (safe w βs b) → ltZ (word w σ a) (word w σ b) ≡ ltZ (eval ρ a) (eval ρ b)
