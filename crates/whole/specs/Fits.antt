@@ -11,7 +11,7 @@ use lib.Dec.{T, ltb, eqb, ltb→lt, nltb→le, lit≤, eqb→eq, eqb-refl}
 use lib.ListN.{getD}
 use lib.IntN.{ℤ, pos, negsuc, negℤ, natAbs, subℕ, _+ℤ_, _-ℤ_, _*ℤ_, +ℤ-idl}
 use lib.Signed.{mag, ltZ, leZ, _≤ℤ_, natAbs-le}
-use mir.Syntax.{Width}
+use mir.Syntax.{Width, w64}
 use mir.Val.{SFits, toZ, ofZ, hbits}
 use mir.Facts as F
 use Rattle.whole.specs.Linear.{order, negation}
@@ -76,6 +76,10 @@ cast-within f h = record { same = F.toZ-ofZ f; near = h }
 
 pub cast : {w : Width} {z : ℤ} → SFits w z → Held (toZ w (ofZ w z)) z (2 ^ hbits w)
 cast f = cast-within f (within-width f)
+
+-- after a read of a slice, which says no more than that its number fits: `cast-read w32 z h`
+pub cast-read : (w : Width) (z : ℤ) → mag z < 2 ^ hbits w → Held (toZ w (ofZ w z)) z (2 ^ hbits w)
+cast-read w z h = cast (record { sfits = h })
 
 abs-neg : (a : ℤ) → natAbs (negℤ a) ≡ natAbs a
 abs-neg (pos zero) = refl
@@ -253,3 +257,11 @@ module _ (w : Width) {σ ρ : List ℤ} {βs : List ℕ} (l : Leaves σ ρ βs) 
       go : (r : Bool) → (T r → eval ρ a ≡ eval ρ b) → (T (not r) → eval ρ a ≢ eval ρ b) → eqb (ofZ w (eval ρ a)) (ofZ w (eval ρ b)) ≡ r
       go true y n = is-true (eqb (ofZ w (eval ρ a)) (ofZ w (eval ρ b))) (subst (λ (z : ℤ). T (eqb (ofZ w (eval ρ a)) (ofZ w z))) (y tt) (eqb-refl (ofZ w (eval ρ a))))
       go false y n = is-false (eqb (ofZ w (eval ρ a)) (ofZ w (eval ρ b))) (λ q. n tt (sym (F.toZ-ofZ (value-fits a s)) ∙ ap (toZ w) (eqb→eq (ofZ w (eval ρ a)) (ofZ w (eval ρ b)) q) ∙ F.toZ-ofZ (value-fits b t)))
+
+-- ---- an example: x * y - 1 at 64 bits, from bounds on x and y. The last need that the code has, and the value that it returns
+module _ (x y : ℤ) (hx : Within x 2000000) (hy : Within y 2000000) where
+  less-one-fits : SFits w64 (toZ w64 (ofZ w64 (toZ w64 (ofZ w64 x) *ℤ toZ w64 (ofZ w64 y))) -ℤ pos 1)
+  less-one-fits = step-fits w64 (hx ∷ʷ hy ∷ʷ []ʷ) (var 0 ⊗ var 1 ⊖ num (pos 1)) tt
+
+  less-one-is : toZ w64 (ofZ w64 (toZ w64 (ofZ w64 (toZ w64 (ofZ w64 x) *ℤ toZ w64 (ofZ w64 y))) -ℤ pos 1)) ≡ x *ℤ y -ℤ pos 1
+  less-one-is = word-is w64 (hx ∷ʷ hy ∷ʷ []ʷ) (var 0 ⊗ var 1 ⊖ num (pos 1)) tt
