@@ -1,15 +1,15 @@
 -- Sign certificates: facts that an expression is 0, at least 0 or above 0 are combined by sums and products, and one computed
 -- test says that the combination is the statement wanted, a positive factor apart where one is given. Assumes nothing.
-use mathlib.Core.Path.{_≡_, refl, sym, ap, _∙_, subst}
+use mathlib.Core.Path.{_≡_, refl, ap, _∙_, subst}
 use mathlib.Core.List.{List, [], _∷_}
-use mathlib.Core.Bool.{Bool, true, false, not}
-use Prim.Native.Nat.{ℕ, zero, suc}
+use mathlib.Core.Bool.{Bool, not}
+use Prim.Native.Nat.{ℕ}
 use lib.Dec.{T, ltb}
-use lib.IntN.{ℤ, pos, negsuc, negℤ, _+ℤ_, _-ℤ_, _*ℤ_, zero-*ℤ, *ℤ-zero}
+use lib.IntN.{ℤ, pos, _+ℤ_, _-ℤ_, _*ℤ_, zero-*ℤ, *ℤ-zero}
 use lib.Signed.{leZ, ltZ, _≤ℤ_, _<ℤ_, leZ-yes, ltZ-yes}
 use Rattle.whole.specs.Linear.{order, sum, negation, difference}
 use Rattle.whole.specs.Laws.{eqZ, eqZ-no, 0≤-*ℤ, 0<-*ℤ, 0≤-square, cancel-0≤, cancel-0<, cancel-≡0, <ℤ→≤ℤ}
-use Rattle.whole.specs.Solver.{Ex, var, num, _⊕_, _⊖_, _⊗_, ⊝_, eval, norm, ring, east, north, tri}
+use Rattle.whole.specs.Solver.{Ex, var, num, _⊕_, _⊖_, _⊗_, ⊝_, eval, norm, ring, east, tri}
 
 -- ---- facts. ρ and e are inferred from a proof
 pub data Sign : Type 0 where

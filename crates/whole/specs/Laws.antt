@@ -1,15 +1,14 @@
 -- The integers as an ordered commutative ring: the laws of the product that the logic's library lacks, the laws of the
 -- two orders, and what the Boolean tests of order and equality mean. Assumes nothing.
-use mathlib.Core.Path.{_≡_, refl, sym, ap, _∙_, subst, _≡⟨_⟩_, _∎}
+use mathlib.Core.Path.{_≡_, refl, sym, ap, _∙_, subst}
 use mathlib.Core.Logic.{_≢_, _⊎_, inl, inr, ⊎-elim}
 use mathlib.Core.Bool.{Bool, true, false, not, _&&_}
-use Prim.Native.Nat.{ℕ, zero, suc, _+_, _*_, _≤_, _<_, zero-le, suc-le-suc}
+use Prim.Native.Nat.{zero, suc, _*_, zero-le}
 use native.Mathlib.Nat.{mul-pos}
-use native.Mathlib.Omega.{arith}
-use lib.Dec.{T, T-not, not-T, leb, ltb, eqb, eqb→eq, eqb-refl, le→leb, lt→ltb, ltb→lt}
-use lib.IntN.{ℤ, pos, negsuc, negℤ, sucℤ, predℤ, _+ℤ_, _-ℤ_, _*ℤ_, sucℤ-+ℤ, predℤ-+ℤ, sucℤ-*ℤ, predℤ-*ℤ, +ℤ-assoc, +ℤ-comm, +ℤ-idl, +ℤ-idr, +ℤ-invl, +ℤ-negℤ-cancel, zero-*ℤ, *ℤ-comm}
+use lib.Dec.{T, T-not, le→leb, lt→ltb, ltb→lt}
+use lib.IntN.{ℤ, pos, negsuc, negℤ, sucℤ, predℤ, _+ℤ_, _-ℤ_, _*ℤ_, sucℤ-+ℤ, predℤ-+ℤ, sucℤ-*ℤ, predℤ-*ℤ, +ℤ-assoc, +ℤ-comm, +ℤ-idl, +ℤ-invl, +ℤ-negℤ-cancel, zero-*ℤ, *ℤ-comm}
 use lib.Signed.{ltZ, leZ, _≤ℤ_, _<ℤ_, ltZ-yes, leZ-yes, ltZ-no, ≤ℤ-refl}
-use Rattle.whole.specs.Linear.{up, dn, order, sum, difference, negation, prove-le, prove-lt, prove-eq, read-lt-true, read-le-true, read-lt-false, read-le-false}
+use Rattle.whole.specs.Linear.{order, sum, difference, negation}
 
 -- ---- the ring
 -- the middle two of three summands change places
@@ -209,11 +208,11 @@ test-lt a b e = omega order
 pub test-nlt : (a b : ℤ) → ltZ a b ≡ false → b ≤ℤ a
 test-nlt a b e = omega order
 
-is-true : (t : Bool) → T t → t ≡ true
+pub is-true : (t : Bool) → T t → t ≡ true
 is-true true p = refl
 is-true false p = absurd p
 
-is-false : (t : Bool) → (T t → ⊥) → t ≡ false
+pub is-false : (t : Bool) → (T t → ⊥) → t ≡ false
 is-false true f = absurd (f tt)
 is-false false f = refl
 
