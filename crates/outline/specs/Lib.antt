@@ -1,0 +1,7 @@
+pub mod Lists
+pub mod Sides
+pub mod Under
+pub mod Chains
+pub mod Bridges
+pub mod Prefix
+pub mod Steps
