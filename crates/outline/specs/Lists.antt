@@ -10,7 +10,7 @@ use native.Mathlib.Omega.{arith}
 use lib.IntN.{ℤ}
 use lib.Signed.{_≤ℤ_, _<ℤ_, leZ, ltZ, ≤ℤ-refl}
 use lib.ListN.{length, getD}
-use Rattle.whole.specs.Laws.{≤ℤ-antisym, <ℤ-trans, ≤ℤ-of-≡, le-test, lt-test, nlt-test, test-le, test-lt, test-nlt}
+use Rattle.whole.specs.Laws.{<ℤ-trans, lt-test, nlt-test, eq-test, test-lt, test-nlt, test-eq}
 use Rattle.rules.specs.Lists.{consIf, those, some-of, all-of, first-place, best-from, best, alike}
 use Rattle.rules.specs.Streams.{Stream, stream, same, eqZ}
 
@@ -387,24 +387,17 @@ abbrev pub way : Bool → ℤ → ℤ → Bool
 way true a b = ltZ a b
 way false a b = ltZ b a
 
--- equality as the rules test it
-pub equal-test : {a b : ℤ} → a ≡ b → eqZ a b ≡ true
-equal-test e = yes-both (le-test (≤ℤ-of-≡ e)) (le-test (≤ℤ-of-≡ (sym e)))
-
-pub test-equal : (a b : ℤ) → eqZ a b ≡ true → a ≡ b
-test-equal a b e = let k = both-yes (leZ a b) (leZ b a) e in ≤ℤ-antisym (test-le a b (k .0)) (test-le b a (k .1))
-
 -- what the test says
 pub two-keys-yes : (a b c d e f : ℤ) → (ltZ a b || eqZ c d && ltZ e f) ≡ true → (a <ℤ b) ⊎ ((c ≡ d) × (e <ℤ f))
 two-keys-yes a b c d e f h =
     ⊎-elim (λ g. inl (test-lt a b g)) (λ g. inr (level (both-yes (eqZ c d) (ltZ e f) g))) (one-yes (ltZ a b) (eqZ c d && ltZ e f) h)
   where
     level : (eqZ c d ≡ true) × (ltZ e f ≡ true) → (c ≡ d) × (e <ℤ f)
-    level g = (test-equal c d (g .0), test-lt e f (g .1))
+    level g = (test-eq c d (g .0), test-lt e f (g .1))
 
 pub two-keys-no : (a b c d e f : ℤ) → (ltZ a b || eqZ c d && ltZ e f) ≡ false → (b ≤ℤ a) × (c ≡ d → f ≤ℤ e)
 two-keys-no a b c d e f h =
-    (test-nlt a b (n .0), λ q. ⊎-elim (λ g. not-both (equal-test q) g) (λ g. test-nlt e f g) (one-no (eqZ c d) (ltZ e f) (n .1)))
+    (test-nlt a b (n .0), λ q. ⊎-elim (λ g. not-both (eq-test q) g) (λ g. test-nlt e f g) (one-no (eqZ c d) (ltZ e f) (n .1)))
   where
     n : (ltZ a b ≡ false) × ((eqZ c d && ltZ e f) ≡ false)
     n = both-no (ltZ a b) (eqZ c d && ltZ e f) h
@@ -418,7 +411,7 @@ yes-second-key a b {c} {d} {e} {f} p q = go (ltZ a b)
   where
     go : (t : Bool) → (t || eqZ c d && ltZ e f) ≡ true
     go true = refl
-    go false = yes-both (equal-test p) (lt-test q)
+    go false = yes-both (eq-test p) (lt-test q)
 
 -- such a test ranks the items
 way-not-itself : (w : Bool) (a : ℤ) → way w a a ≡ false
@@ -447,7 +440,7 @@ two-keys-rank {A} w v first second = record { not-itself = λ x t. itself x; in-
     reads : (x y : A) → beats x y ≡ true → Ahead x y
     reads x y e =
         ⊎-elim inl (λ g. let k = both-yes (eqZ (first x) (first y)) (way v (second x) (second y)) g in inr
-        (test-equal (first x) (first y) (k .0), k .1)) (one-yes (way w (first x) (first y))
+        (test-eq (first x) (first y) (k .0), k .1)) (one-yes (way w (first x) (first y))
         (eqZ (first x) (first y) && way v (second x) (second y)) e)
 
     gives : (x y : A) → Ahead x y → beats x y ≡ true
@@ -456,7 +449,7 @@ two-keys-rank {A} w v first second = record { not-itself = λ x t. itself x; in-
       where
         go : (t : Bool) → (t || eqZ (first x) (first y) && way v (second x) (second y)) ≡ true
         go true = refl
-        go false = yes-both (equal-test (e .0)) (e .1)
+        go false = yes-both (eq-test (e .0)) (e .1)
 
     follows : (x y z : A) → Ahead x y → Ahead y z → Ahead x z
     follows x y z (inl p) (inl q) = inl (way-in-turn w (first x) (first y) (first z) p q)
@@ -476,11 +469,11 @@ pub same-equal : (p q : Stream) → same p q ≡ true → p ≡ q
 unfolding same
 same-equal p q h =
     let k = both-yes (eqZ (p .east) (q .east)) (eqZ (p .north) (q .north)) h in
-    streams-equal (test-equal (p .east) (q .east) (k .0)) (test-equal (p .north) (q .north) (k .1))
+    streams-equal (test-eq (p .east) (q .east) (k .0)) (test-eq (p .north) (q .north) (k .1))
 
 pub equal-same : {p q : Stream} → p ≡ q → same p q ≡ true
 unfolding same
-equal-same e = yes-both (equal-test (ap (λ (s : Stream). s .east) e)) (equal-test (ap (λ (s : Stream). s .north) e))
+equal-same e = yes-both (eq-test (ap (λ (s : Stream). s .east) e)) (eq-test (ap (λ (s : Stream). s .north) e))
 
 pub same-no : (p q : Stream) → same p q ≡ false → p ≢ q
 same-no p q h e = not-both (equal-same e) h
