@@ -1,0 +1,9 @@
+pub mod Items
+pub mod Slopes
+pub mod Pairs
+pub mod Tops
+pub mod Rounds
+pub mod Values
+pub mod Renaming
+pub mod Steps
+pub mod WholeList
