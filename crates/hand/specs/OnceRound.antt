@@ -1,14 +1,14 @@
 -- Once round a ring of m corners: m steps from the start answer the edges 0 to 1, 1 to 2, and so on to m - 1 to 0, each once, and hand back the first hand.
 -- Assumes nothing.
-use mathlib.Core.Path.{_≡_, refl, sym, ap, _∙_}
+use mathlib.Core.Path.{_≡_, refl}
 use mathlib.Core.List.{List, [], _∷_, map}
 use Prim.Native.Nat.{ℕ, zero, suc, _+_, _≤_}
 use native.Mathlib.Numerals.{add-one}
 use native.Mathlib.Omega.{arith}
 use borrow.Author.Tests.{le-ltb, lt-leb, eq-eqb, ne-eqb}
 use Rattle.rules.specs.Streams.{most}
-use Rattle.rules.specs.Use.{HandAt, hand-for, next-place, moved-on}
-use Rattle.rules.specs.Refusals.{Answer, refused, done}
+use Rattle.rules.specs.Use.{HandAt, hand-for, moved-on}
+use Rattle.rules.specs.Refusals.{Answer, done}
 use Rattle.rules.specs.Entries.{HandStep, hand-step-answer, hand-after}
 
 abbrev pub hand : ℕ → ℕ → HandAt
@@ -64,6 +64,7 @@ from-place (suc k) m i few at =
     (up m i few (omega arith))
     (from-place k m (suc i) few (omega arith))
 
+-- m is k + 1
 pub once-round : (k : ℕ) → suc k ≤ most →
     (answers (suc k) (hand-for (suc k)) ≡ map done (up-and-back 0 k)) × (after (suc k) (hand-for (suc k)) ≡ hand-for (suc k))
 once-round k few = from-place k (suc k) 0 few (omega arith)

@@ -1,0 +1,5 @@
+pub mod Floats
+pub mod Answers
+pub mod Written
+pub mod Entry
+pub mod Outcomes
