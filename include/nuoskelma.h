@@ -52,6 +52,37 @@ typedef struct {
  */
 nuoskelma_hand_stepped nuoskelma_hand_step(nuoskelma_hand hand);
 
+/* ---- Float door: readings that come as 64-bit floats, in the unit of the parts. */
+#define NUOSKELMA_HAS_DOOR 1
+
+typedef struct {
+    uint32_t number;
+    int32_t value;
+    double back;
+} nuoskelma_part_taken;
+
+/*
+ * One part, taken exactly if its value is a whole number from -1,000,000 to 1,000,000; minus zero is taken as 0.
+ * Refused, in this order: 12, not a number; 13, beyond the limit, infinities included; 14, a fraction. 13 and 14 hand back the float itself.
+ */
+nuoskelma_part_taken nuoskelma_part(double x);
+
+typedef struct {
+    uint32_t number;
+    size_t place;
+    size_t count;
+    double back;
+} nuoskelma_readings_taken;
+
+/*
+ * The readings of two lists, one east, one north: their parts at the front of two output lists, and how many they are. What lies beyond them in the output
+ * lists stays.
+ * Refused: 1, the two lists differ in length; 2, over 65,536 readings; 12 to 14 as for one part, by the first bad reading, east before north, with the reading
+ * as place; 5, an output list is shorter than the readings. A refusal alters nothing.
+ */
+nuoskelma_readings_taken nuoskelma_readings(const double *east, size_t east_len, const double *north, size_t north_len, int32_t *out_east,
+    size_t out_east_len, int32_t *out_north, size_t out_north_len);
+
 #ifdef __cplusplus
 }
 #endif
