@@ -53,7 +53,8 @@ typedef struct {
 nuoskelma_hand_stepped nuoskelma_hand_step(nuoskelma_hand hand);
 
 /* ---- Float door: readings that come as 64-bit floats, in the unit of the parts. */
-#define NUOSKELMA_HAS_DOOR 1
+#define NUOSKELMA_HAS_PART 1
+#define NUOSKELMA_HAS_READINGS 1
 
 typedef struct {
     uint32_t number;

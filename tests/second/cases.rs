@@ -1,0 +1,78 @@
+//! The cases, a module for each entry, and what they share: how much scratch and output is lent, and how a result's fields follow from an answer.
+
+pub mod bridge;
+pub mod chains;
+pub mod cover;
+pub mod hand;
+pub mod join;
+pub mod part;
+pub mod pick;
+pub mod program;
+pub mod readings;
+pub mod record;
+pub mod ring;
+pub mod round;
+pub mod strongest;
+pub mod turn_about;
+
+use crate::driver::Desk;
+use crate::gen::Chance;
+use crate::rules::{scratch_for, Answer};
+
+/// The names by which entries are asked for, with their cases.
+pub const ENTRIES: [(&str, fn(&mut Desk)); 13] = [
+    ("pick", pick::cases),
+    ("round", round::cases),
+    ("bridge", bridge::cases),
+    ("chains", chains::cases),
+    ("ring", ring::cases),
+    ("hand", hand::cases),
+    ("strongest", strongest::cases),
+    ("cover", cover::cases),
+    ("turn_about", turn_about::cases),
+    ("join", join::cases),
+    ("part", part::cases),
+    ("readings", readings::cases),
+    ("record", record::cases),
+];
+
+/// A result's number and place, then its other fields, which are 0 at a refusal.
+fn fields(answer: Answer<Vec<i64>>, others: usize) -> Vec<i64> {
+    match answer {
+        Ok(values) => [vec![0, 0], values].concat(),
+        Err(no) => [vec![no.number as i64, no.place as i64], vec![0; others]].concat(),
+    }
+}
+
+/// Scratch for so many samples, list items or joined corners: mostly as long as it must be, else longer, or too short. Mostly noise.
+fn scratch(chance: &mut Chance, count: usize) -> Vec<u32> {
+    let enough = scratch_for(count);
+    let length = match chance.below(24) {
+        0 => enough - 1,
+        1 => chance.below(enough),
+        2 => enough + 1,
+        3 => enough + chance.below(40),
+        _ => enough,
+    };
+    match chance.below(12) {
+        0 => vec![0; length],
+        1 => vec![u32::MAX; length],
+        _ => chance.noise_u32(length),
+    }
+}
+
+/// Scratch that is exactly long enough, full of noise.
+fn enough_scratch(chance: &mut Chance, count: usize) -> Vec<u32> {
+    chance.noise_u32(scratch_for(count))
+}
+
+/// A length for an output list: mostly the result's, else longer, or too short.
+fn output_length(chance: &mut Chance, result: usize) -> usize {
+    match chance.below(12) {
+        0 | 1 => result.saturating_sub(1),
+        2 => chance.below(result + 1),
+        3 => result + 1,
+        4 | 5 => result + chance.below(20),
+        _ => result,
+    }
+}

@@ -1,0 +1,71 @@
+//! Cases of the bridge.
+
+use super::{enough_scratch, fields, scratch};
+use crate::driver::{Case, Desk, Lent, BRIDGE};
+use crate::gen::{cut, input_a, samples, spoil_lengths, spoil_parts, too_many, Chance, Samples, KINDS};
+use crate::rules::chain::bridge;
+use crate::rules::{scratch_for, MOST};
+
+fn put(desk: &mut Desk, words: &'static str, samples: Samples, a: i32, scratch: Vec<u32>) {
+    let mut after = scratch.clone();
+    let answer = bridge(&samples.east, &samples.north, a, &mut after);
+    desk.put(Case {
+        entry: &BRIDGE,
+        words,
+        scalars: vec![a as i64],
+        lent: vec![Lent::I32(samples.east), Lent::I32(samples.north), Lent::U32(scratch)],
+        said: fields(answer.map(|(left, right)| vec![left as i64, right as i64]), 2),
+        altered: vec![(2, Lent::U32(after))],
+    });
+}
+
+pub fn cases(desk: &mut Desk) {
+    let mut chance = Chance::new(3);
+    for (words, a) in [("P3", 2), ("P4", 1), ("P5", 4), ("input A", 0), ("input A", 3), ("input A", -1), ("input A", i32::MIN)] {
+        let scratch = enough_scratch(&mut chance, 7);
+        put(desk, words, input_a(), a, scratch);
+    }
+    every_cut(desk, &mut chance);
+    for _ in 0..240_000 {
+        let n = chance.length();
+        let (words, mut samples) = samples(&mut chance, n);
+        let a = cut(&mut chance, &samples.east);
+        if chance.one_in(12) {
+            spoil_parts(&mut chance, &mut samples);
+        }
+        if chance.one_in(20) {
+            spoil_lengths(&mut chance, &mut samples);
+        }
+        let scratch = scratch(&mut chance, n);
+        put(desk, words, samples, a, scratch);
+    }
+    largest(desk, &mut chance);
+}
+
+/// Short lists with a at, below and above every east.
+fn every_cut(desk: &mut Desk, chance: &mut Chance) {
+    for _ in 0..3_000 {
+        let n = chance.below(7);
+        let (words, samples) = samples(chance, n);
+        for a in samples.east.iter().flat_map(|&east| [east - 1, east, east + 1]) {
+            let scratch = enough_scratch(chance, n);
+            put(desk, words, samples.clone(), a, scratch);
+        }
+    }
+}
+
+fn largest(desk: &mut Desk, chance: &mut Chance) {
+    for (words, maker) in KINDS {
+        let samples = Samples::of(&maker(chance, MOST));
+        let mut easts = samples.east.clone();
+        easts.sort_unstable();
+        for a in [easts[0], easts[MOST / 2], easts[MOST - 1] - 1, easts[MOST - 1]] {
+            let scratch = enough_scratch(chance, MOST);
+            put(desk, words, samples.clone(), a, scratch);
+        }
+    }
+    for long in too_many() {
+        put(desk, "too many samples", long.clone(), 3, vec![7; scratch_for(MOST + 1)]);
+        put(desk, "too many samples, no scratch", long, 3, Vec::new());
+    }
+}

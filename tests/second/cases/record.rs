@@ -1,0 +1,114 @@
+//! Cases of the record reader: whole records, cut ones, ones with bytes too many or a bit flipped, and ones of no envelope.
+
+use super::{fields, output_length};
+use crate::driver::{Case, Desk, Lent, RECORD};
+use crate::gen::{almost_ring, input_a, large_ring, ring, spoil_parts, Chance, Samples};
+use crate::rules::chain::{at, ring_of};
+use crate::rules::record::{record, record_of, HEAD};
+use crate::rules::MOST;
+
+fn put(desk: &mut Desk, words: &'static str, bytes: Vec<u8>, out_east: Vec<i32>, out_north: Vec<i32>) {
+    let (mut east_after, mut north_after) = (out_east.clone(), out_north.clone());
+    let answer = record(&bytes, &mut east_after, &mut north_after);
+    desk.put(Case {
+        entry: &RECORD,
+        words,
+        scalars: Vec::new(),
+        lent: vec![Lent::Bytes(bytes), Lent::I32(out_east), Lent::I32(out_north)],
+        said: fields(answer.map(|count| vec![count as i64]), 1),
+        altered: vec![(1, Lent::I32(east_after)), (2, Lent::I32(north_after))],
+    });
+}
+
+fn put_enough(desk: &mut Desk, chance: &mut Chance, words: &'static str, bytes: Vec<u8>) {
+    let corners = bytes.len() / 8 + 1;
+    put(desk, words, bytes, chance.noise_i32(corners), chance.noise_i32(corners));
+}
+
+pub fn cases(desk: &mut Desk) {
+    let mut chance = Chance::new(14);
+    put_enough(desk, &mut chance, "no byte", Vec::new());
+    damaged(desk, &mut chance, &record_of(&[]));
+    damaged(desk, &mut chance, &record_of(&ring_of(&input_a().positions())));
+    for _ in 0..1_000 {
+        let (_, corners) = ring(&mut chance);
+        damaged(desk, &mut chance, &record_of(&corners));
+        let (_, almost) = almost_ring(&mut chance);
+        damaged(desk, &mut chance, &record_of(&almost));
+    }
+    by_chance(desk, &mut chance);
+    for _ in 0..150_000 {
+        let (words, corners) = if chance.one_in(2) { almost_ring(&mut chance) } else { ring(&mut chance) };
+        let mut ring = Samples::of(&corners);
+        if chance.one_in(8) {
+            spoil_parts(&mut chance, &mut ring);
+        }
+        let (out_east, out_north) = (output_length(&mut chance, corners.len()), output_length(&mut chance, corners.len()));
+        let (out_east, out_north) = (chance.noise_i32(out_east), chance.noise_i32(out_north));
+        put(desk, words, record_of(&ring.positions()), out_east, out_north);
+    }
+    largest(desk, &mut chance);
+}
+
+/// A record cut at every length, with bytes too many, with each bit of its head flipped and some others.
+fn damaged(desk: &mut Desk, chance: &mut Chance, bytes: &[u8]) {
+    for length in 0..=bytes.len() {
+        put_enough(desk, chance, "cut record", bytes[..length].to_vec());
+    }
+    for more in 1..=17 {
+        let noise = chance.bits().to_le_bytes().repeat(3);
+        put_enough(desk, chance, "record with bytes too many", [bytes, &noise[..more]].concat());
+    }
+    let flipped = |bit: usize| {
+        let mut bytes = bytes.to_vec();
+        bytes[bit / 8] ^= 1 << (bit % 8);
+        bytes
+    };
+    for bit in 0..8 * HEAD {
+        put_enough(desk, chance, "record with a bit of its head flipped", flipped(bit));
+    }
+    for length in 1..=HEAD {
+        for bit in 0..8 * length {
+            put_enough(desk, chance, "cut record with a bit flipped", flipped(bit)[..length].to_vec());
+        }
+    }
+    for _ in 0..20 {
+        let bit = chance.below(8 * bytes.len());
+        put_enough(desk, chance, "record with a bit flipped", flipped(bit));
+    }
+    // the length fits the bytes that follow, but they are no whole corners
+    for more in 1..=9u32 {
+        let mut longer = [bytes, &vec![0; more as usize]].concat();
+        let length = (longer.len() - HEAD) as u32;
+        longer[1..HEAD].copy_from_slice(&length.to_be_bytes());
+        put_enough(desk, chance, "record of another length", longer);
+    }
+}
+
+/// Bytes that mean nothing, and heads that mean little.
+fn by_chance(desk: &mut Desk, chance: &mut Chance) {
+    for _ in 0..20_000 {
+        let length = chance.below(30);
+        let mut bytes: Vec<u8> = (0..length).map(|_| chance.of(&[0, 1, 2, 8, 16, 24, 255])).collect();
+        put_enough(desk, chance, "bytes by chance", bytes.clone());
+        for (byte, head) in bytes.iter_mut().zip([1, 0, 0, 0, length.saturating_sub(HEAD) as u8]) {
+            *byte = head;
+        }
+        put_enough(desk, chance, "bytes by chance under a good head", bytes);
+    }
+}
+
+fn largest(desk: &mut Desk, chance: &mut Chance) {
+    let bytes = record_of(&large_ring(45_000));
+    for (out_east, out_north) in [(45_000, 45_000), (44_999, 45_000), (45_000, 44_999), (45_001, 65_537)] {
+        put(desk, "45,000 corners", bytes.clone(), vec![8; out_east], vec![9; out_north]);
+    }
+    put_enough(desk, chance, "45,000 corners, one byte missing", bytes[..bytes.len() - 1].to_vec());
+    let too_many = record_of(&vec![at(5, 5); MOST + 1]);
+    put_enough(desk, chance, "one corner too many, one byte missing", too_many[..too_many.len() - 1].to_vec());
+    put_enough(desk, chance, "one corner too many, of another version", [&[0], &too_many[1..]].concat());
+    for count in [MOST, MOST + 1] {
+        put_enough(desk, chance, "most corners or one more, no ring", record_of(&vec![at(5, 5); count]));
+        put_enough(desk, chance, "most corners or one more, beyond the limit", record_of(&vec![at(5, 1_000_001); count]));
+    }
+}

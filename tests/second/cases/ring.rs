@@ -1,0 +1,79 @@
+//! Cases of the ring.
+
+use super::{enough_scratch, fields, output_length, scratch};
+use crate::driver::{Case, Desk, Lent, RING};
+use crate::gen::{input_a, large_ring, samples, spoil_lengths, spoil_parts, too_many, Chance, Samples, KINDS};
+use crate::rules::chain::{ring, ring_of};
+use crate::rules::{scratch_for, MOST};
+
+fn put(desk: &mut Desk, words: &'static str, samples: Samples, out_east: Vec<i32>, out_north: Vec<i32>, scratch: Vec<u32>) {
+    let (mut east_after, mut north_after, mut scratch_after) = (out_east.clone(), out_north.clone(), scratch.clone());
+    let answer = ring(&samples.east, &samples.north, &mut east_after, &mut north_after, &mut scratch_after);
+    desk.put(Case {
+        entry: &RING,
+        words,
+        scalars: Vec::new(),
+        lent: vec![Lent::I32(samples.east), Lent::I32(samples.north), Lent::I32(out_east), Lent::I32(out_north), Lent::U32(scratch)],
+        said: fields(answer.map(|count| vec![count as i64]), 1),
+        altered: vec![(2, Lent::I32(east_after)), (3, Lent::I32(north_after)), (4, Lent::U32(scratch_after))],
+    });
+}
+
+pub fn cases(desk: &mut Desk) {
+    let mut chance = Chance::new(5);
+    every_output(desk, &mut chance, "input A", input_a());
+    for _ in 0..3_000 {
+        let n = chance.below(12);
+        let (words, samples) = samples(&mut chance, n);
+        every_output(desk, &mut chance, words, samples);
+    }
+    for _ in 0..300_000 {
+        let n = chance.length();
+        let (words, mut samples) = samples(&mut chance, n);
+        let corners = ring_of(&samples.positions()).len();
+        let (out_east, out_north) = (output_length(&mut chance, corners), output_length(&mut chance, corners));
+        if chance.one_in(16) {
+            spoil_parts(&mut chance, &mut samples);
+        }
+        if chance.one_in(24) {
+            spoil_lengths(&mut chance, &mut samples);
+        }
+        let (out_east, out_north, scratch) = (chance.noise_i32(out_east), chance.noise_i32(out_north), scratch(&mut chance, n));
+        put(desk, words, samples, out_east, out_north, scratch);
+    }
+    largest(desk, &mut chance);
+}
+
+/// The outputs exactly long enough, one short in either and in both, and longer; the scratch exactly long enough and one short.
+fn every_output(desk: &mut Desk, chance: &mut Chance, words: &'static str, samples: Samples) {
+    let enough = ring_of(&samples.positions()).len();
+    let short = enough.saturating_sub(1);
+    for (out_east, out_north) in [(enough, enough), (short, enough), (enough, short), (short, short), (enough + 3, enough + 1)] {
+        for scratch in [scratch_for(samples.east.len()), scratch_for(samples.east.len()) - 1] {
+            let (out_east, out_north, scratch) = (chance.noise_i32(out_east), chance.noise_i32(out_north), chance.noise_u32(scratch));
+            put(desk, words, samples.clone(), out_east, out_north, scratch);
+        }
+    }
+}
+
+fn largest(desk: &mut Desk, chance: &mut Chance) {
+    for (words, maker) in KINDS {
+        let samples = Samples::of(&maker(chance, MOST));
+        let corners = ring_of(&samples.positions()).len();
+        let (out_east, out_north, scratch) = (chance.noise_i32(corners), chance.noise_i32(corners), enough_scratch(chance, MOST));
+        put(desk, words, samples, out_east, out_north, scratch);
+    }
+    // a ring of very many corners, out of order and with repeats
+    let mut many = large_ring(45_000);
+    many.extend_from_within(..MOST - 45_000);
+    chance.shuffle(&mut many);
+    let samples = Samples::of(&many);
+    put(desk, "45,000 corners", samples.clone(), vec![8; 45_000], vec![9; 45_001], vec![7; scratch_for(MOST)]);
+    put(desk, "45,000 corners, one output short", samples.clone(), vec![8; 45_000], vec![9; 44_999], vec![7; scratch_for(MOST)]);
+    put(desk, "45,000 corners, scratch one short", samples, vec![8; 45_000], vec![9; 45_000], vec![7; scratch_for(MOST) - 1]);
+    let long = Samples::of(&crate::gen::tide(chance, MOST + 1));
+    put(desk, "one sample too many", long, vec![8; 9], vec![9; 9], vec![7; scratch_for(MOST + 1)]);
+    for long in too_many() {
+        put(desk, "too many samples, nothing else", long, Vec::new(), Vec::new(), Vec::new());
+    }
+}

@@ -1,0 +1,85 @@
+//! Cases of the strongest set: courses across the edges, where two corners have it, and beside them.
+
+use super::fields;
+use crate::driver::{Case, Desk, Lent, STRONGEST};
+use crate::gen::{almost_ring, input_a, large_ring, ring, spoil_lengths, spoil_parts, too_many, Chance, Samples};
+use crate::rules::chain::{ring_of, Position};
+use crate::rules::using::strongest;
+use crate::rules::{LIMIT, MOST};
+
+fn put(desk: &mut Desk, words: &'static str, ring: Samples, course: (i32, i32)) {
+    let answer = strongest(&ring.east, &ring.north, course.0, course.1);
+    desk.put(Case {
+        entry: &STRONGEST,
+        words,
+        scalars: vec![course.0 as i64, course.1 as i64],
+        lent: vec![Lent::I32(ring.east), Lent::I32(ring.north)],
+        said: fields(answer.map(|(set, place)| vec![set, place as i64]), 2),
+        altered: Vec::new(),
+    });
+}
+
+fn common(a: i64, b: i64) -> i64 {
+    if b == 0 {
+        a.abs().max(1)
+    } else {
+        common(b, a % b)
+    }
+}
+
+/// The course straight across the edge from p to q, outwards, as short as it is exact.
+fn across(p: Position, q: Position) -> (i32, i32) {
+    let (east, north) = (q.east - p.east, q.north - p.north);
+    let by = common(east, north);
+    ((-north / by) as i32, (east / by) as i32)
+}
+
+fn course(chance: &mut Chance, corners: &[Position]) -> (i32, i32) {
+    let near = [-LIMIT - 1, -LIMIT, -LIMIT + 1, -1, 0, 1, LIMIT - 1, LIMIT, LIMIT + 1, i32::MIN, i32::MAX];
+    match chance.below(10) {
+        0 => (chance.of(&near), chance.of(&near)),
+        1 => (0, 0),
+        2 => (chance.between(-4, 4) as i32, chance.between(-4, 4) as i32),
+        3 => (chance.between(-1_000_000, 1_000_000) as i32, chance.between(-1_000_000, 1_000_000) as i32),
+        _ if corners.is_empty() => (1, 1),
+        _ => {
+            let place = chance.below(corners.len());
+            let (x, y) = across(corners[place], corners[(place + 1) % corners.len()]);
+            let sign = chance.of(&[1, 1, 1, -1]);
+            (sign * x + chance.of(&[0, 0, 0, -1, 1]), sign * y + chance.of(&[0, 0, 0, -1, 1]))
+        }
+    }
+}
+
+pub fn cases(desk: &mut Desk) {
+    let mut chance = Chance::new(8);
+    let ring_a = Samples::of(&ring_of(&input_a().positions()));
+    put(desk, "P11", ring_a.clone(), (-1, 1));
+    for x in -3..=3 {
+        for y in -3..=3 {
+            put(desk, "A's ring", ring_a.clone(), (x, y));
+        }
+    }
+    for _ in 0..300_000 {
+        let (words, corners) = if chance.one_in(4) { almost_ring(&mut chance) } else { ring(&mut chance) };
+        let course = course(&mut chance, &corners);
+        let mut ring = Samples::of(&corners);
+        if chance.one_in(20) {
+            spoil_parts(&mut chance, &mut ring);
+        }
+        if chance.one_in(30) {
+            spoil_lengths(&mut chance, &mut ring);
+        }
+        put(desk, words, ring, course);
+    }
+    let large = large_ring(45_000);
+    for _ in 0..20 {
+        let course = course(&mut chance, &large);
+        put(desk, "45,000 corners", Samples::of(&large), course);
+    }
+    put(desk, "most corners, no ring", Samples { east: vec![1; MOST], north: vec![1; MOST] }, (1, 1));
+    for long in too_many() {
+        put(desk, "too many corners", long.clone(), (1, 1));
+        put(desk, "too many corners", long, (LIMIT + 1, 0));
+    }
+}

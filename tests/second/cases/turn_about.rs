@@ -1,0 +1,47 @@
+//! Cases of turning about.
+
+use super::{fields, output_length};
+use crate::driver::{Case, Desk, Lent, TURN_ABOUT};
+use crate::gen::{almost_ring, large_ring, ring, spoil_lengths, spoil_parts, too_many, Chance, Samples};
+use crate::rules::using::turn_about;
+use crate::rules::MOST;
+
+fn put(desk: &mut Desk, words: &'static str, ring: Samples, out_east: Vec<i32>, out_north: Vec<i32>) {
+    let (mut east_after, mut north_after) = (out_east.clone(), out_north.clone());
+    let answer = turn_about(&ring.east, &ring.north, &mut east_after, &mut north_after);
+    desk.put(Case {
+        entry: &TURN_ABOUT,
+        words,
+        scalars: Vec::new(),
+        lent: vec![Lent::I32(ring.east), Lent::I32(ring.north), Lent::I32(out_east), Lent::I32(out_north)],
+        said: fields(answer.map(|count| vec![count as i64]), 1),
+        altered: vec![(2, Lent::I32(east_after)), (3, Lent::I32(north_after))],
+    });
+}
+
+pub fn cases(desk: &mut Desk) {
+    let mut chance = Chance::new(10);
+    put(desk, "P10", Samples { east: vec![0, 2, 4], north: vec![0, 5, 0] }, vec![8; 3], vec![9; 3]);
+    for _ in 0..300_000 {
+        let (words, corners) = if chance.one_in(4) { almost_ring(&mut chance) } else { ring(&mut chance) };
+        let (out_east, out_north) = (output_length(&mut chance, corners.len()), output_length(&mut chance, corners.len()));
+        let mut ring = Samples::of(&corners);
+        if chance.one_in(20) {
+            spoil_parts(&mut chance, &mut ring);
+        }
+        if chance.one_in(30) {
+            spoil_lengths(&mut chance, &mut ring);
+        }
+        let (out_east, out_north) = (chance.noise_i32(out_east), chance.noise_i32(out_north));
+        put(desk, words, ring, out_east, out_north);
+    }
+    let large = Samples::of(&large_ring(45_000));
+    for (out_east, out_north) in [(45_000, 45_000), (44_999, 45_000), (45_000, 44_999), (45_001, 65_537)] {
+        put(desk, "45,000 corners", large.clone(), vec![8; out_east], vec![9; out_north]);
+    }
+    put(desk, "most corners, no ring", Samples { east: vec![1; MOST], north: vec![1; MOST] }, vec![8; MOST], vec![9; MOST]);
+    for long in too_many() {
+        put(desk, "too many corners", long.clone(), vec![8; MOST + 1], vec![9; MOST + 1]);
+        put(desk, "too many corners, no outputs", long, Vec::new(), Vec::new());
+    }
+}

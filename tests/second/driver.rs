@@ -1,0 +1,253 @@
+//! Lends cases to the library through the driver, and compares what it left with what the rules say.
+
+use std::io::{BufReader, BufWriter, Read, Write};
+use std::process::{exit, ChildStdin, Command, Stdio};
+use std::sync::mpsc::{channel, Sender};
+
+/// An entry as the driver's table has it: its op, and the names of its scalars, its slices and its result's fields.
+pub struct Entry {
+    pub op: u32,
+    pub name: &'static str,
+    pub scalars: &'static [&'static str],
+    pub slices: &'static [&'static str],
+    pub fields: &'static [&'static str],
+}
+
+const fn entry(
+    op: u32,
+    name: &'static str,
+    scalars: &'static [&'static str],
+    slices: &'static [&'static str],
+    fields: &'static [&'static str],
+) -> Entry {
+    Entry { op, name, scalars, slices, fields }
+}
+
+pub const PICK: Entry = entry(1, "pick", &["rank"], &["numbers", "scratch"], &["number", "place", "value"]);
+pub const ROUND: Entry =
+    entry(2, "round", &["a"], &["east", "north", "list", "output", "scratch"], &["number", "place", "kind", "left", "right", "kept"]);
+pub const BRIDGE: Entry = entry(3, "bridge", &["a"], &["east", "north", "scratch"], &["number", "place", "left", "right"]);
+pub const CHAINS: Entry = entry(4, "chains", &[], &["east", "north", "upper", "lower", "scratch"], &["number", "place", "upper", "lower"]);
+pub const RING: Entry = entry(5, "ring", &[], &["east", "north", "out_east", "out_north", "scratch"], &["number", "place", "count"]);
+pub const HAND_FOR: Entry = entry(6, "hand_for", &["corners"], &[], &["number", "place", "hand.count", "hand.place"]);
+pub const HAND_STEP: Entry =
+    entry(7, "hand_step", &["hand.count", "hand.place"], &[], &["number", "place", "from", "to", "hand.count", "hand.place"]);
+pub const STRONGEST: Entry = entry(8, "strongest", &["x", "y"], &["east", "north"], &["number", "place", "set", "at"]);
+pub const COVER: Entry = entry(9, "cover", &["x", "y"], &["east", "north"], &["number", "place", "covered"]);
+pub const TURN_ABOUT: Entry = entry(10, "turn_about", &[], &["east", "north", "out_east", "out_north"], &["number", "place", "count"]);
+pub const JOIN: Entry =
+    entry(11, "join", &[], &["east", "north", "east2", "north2", "out_east", "out_north", "scratch"], &["number", "place", "count"]);
+pub const PART: Entry = entry(12, "part", &["x (bits)"], &[], &["number", "value", "back (bits)"]);
+pub const READINGS: Entry = entry(13, "readings", &[], &["east", "north", "out_east", "out_north"], &["number", "place", "count", "back (bits)"]);
+pub const RECORD: Entry = entry(14, "record", &[], &["bytes", "out_east", "out_north"], &["number", "place", "count"]);
+
+/// A lent list. Floats are their bits.
+#[derive(Clone, PartialEq, Eq)]
+pub enum Lent {
+    I32(Vec<i32>),
+    U32(Vec<u32>),
+    F64(Vec<u64>),
+    Bytes(Vec<u8>),
+}
+
+impl Lent {
+    fn length(&self) -> usize {
+        match self {
+            Lent::I32(list) => list.len(),
+            Lent::U32(list) => list.len(),
+            Lent::F64(list) => list.len(),
+            Lent::Bytes(list) => list.len(),
+        }
+    }
+
+    fn bytes(&self) -> Vec<u8> {
+        match self {
+            Lent::I32(list) => list.iter().flat_map(|x| x.to_le_bytes()).collect(),
+            Lent::U32(list) => list.iter().flat_map(|x| x.to_le_bytes()).collect(),
+            Lent::F64(list) => list.iter().flat_map(|x| x.to_le_bytes()).collect(),
+            Lent::Bytes(list) => list.clone(),
+        }
+    }
+
+    /// The list of the same type that bytes stand for.
+    fn alike(&self, bytes: &[u8]) -> Lent {
+        let four = |word: &[u8]| u32::from_le_bytes([word[0], word[1], word[2], word[3]]);
+        match self {
+            Lent::I32(_) => Lent::I32(bytes.chunks_exact(4).map(|word| four(word) as i32).collect()),
+            Lent::U32(_) => Lent::U32(bytes.chunks_exact(4).map(four).collect()),
+            Lent::F64(_) => Lent::F64(bytes.chunks_exact(8).map(|word| four(word) as u64 | (four(&word[4..]) as u64) << 32).collect()),
+            Lent::Bytes(_) => Lent::Bytes(bytes.to_vec()),
+        }
+    }
+
+    fn item(&self, place: usize) -> String {
+        match self {
+            Lent::I32(list) => list[place].to_string(),
+            Lent::U32(list) => list[place].to_string(),
+            Lent::F64(list) => format!("{:?} (bits {:#018x})", f64::from_bits(list[place]), list[place]),
+            Lent::Bytes(list) => format!("{:#04x}", list[place]),
+        }
+    }
+
+    fn shown(&self) -> String {
+        const SHOWN: usize = 400;
+        let items: Vec<String> = (0..self.length().min(SHOWN)).map(|place| self.item(place)).collect();
+        let rest = if self.length() > SHOWN { ", .." } else { "" };
+        format!("{} items: {}{rest}", self.length(), items.join(", "))
+    }
+}
+
+/// What is lent to an entry, and what the rules say of it.
+pub struct Case {
+    pub entry: &'static Entry,
+    /// what kind of case it is, in words
+    pub words: &'static str,
+    pub scalars: Vec<i64>,
+    pub lent: Vec<Lent>,
+    /// the fields of the result
+    pub said: Vec<i64>,
+    /// the slices that the entry alters, each by its place among `lent`; every other slice comes back as it was lent
+    pub altered: Vec<(usize, Lent)>,
+}
+
+impl Case {
+    fn request(&self) -> Vec<u8> {
+        let mut bytes = Vec::new();
+        bytes.extend(self.entry.op.to_le_bytes());
+        bytes.extend((self.scalars.len() as u32).to_le_bytes());
+        bytes.extend(self.scalars.iter().flat_map(|x| x.to_le_bytes()));
+        bytes.extend((self.lent.len() as u32).to_le_bytes());
+        for slice in &self.lent {
+            let content = slice.bytes();
+            bytes.extend((content.len() as u32).to_le_bytes());
+            bytes.extend(content);
+        }
+        bytes
+    }
+
+    /// The slice as the entry must leave it.
+    fn left(&self, place: usize) -> &Lent {
+        match self.altered.iter().find(|(altered, _)| *altered == place) {
+            Some((_, slice)) => slice,
+            None => &self.lent[place],
+        }
+    }
+
+    fn shown(&self) -> String {
+        let mut text = format!("entry {}, case: {}\n", self.entry.name, self.words);
+        for (name, scalar) in self.entry.scalars.iter().zip(&self.scalars) {
+            text += &format!("  lent {name}: {scalar} ({scalar:#x})\n");
+        }
+        for (name, slice) in self.entry.slices.iter().zip(&self.lent) {
+            text += &format!("  lent {name}: {}\n", slice.shown());
+        }
+        text
+    }
+
+    /// In what a response differs from what the rules say.
+    fn difference(&self, said: &[i64], slices: &[Vec<u8>]) -> Option<String> {
+        if said != self.said {
+            let mut text = String::new();
+            for (place, name) in self.entry.fields.iter().enumerate() {
+                let library = said.get(place).map_or("nothing".to_string(), i64::to_string);
+                text += &format!("  {name}: the rules say {}, the library {library}\n", self.said[place]);
+            }
+            return Some(text);
+        }
+        if slices.len() != self.lent.len() {
+            return Some(format!("  {} slices were lent and {} came back\n", self.lent.len(), slices.len()));
+        }
+        let differs = (0..slices.len()).find(|&place| self.left(place).bytes() != slices[place])?;
+        let (rules, library) = (self.left(differs), self.lent[differs].alike(&slices[differs]));
+        let name = self.entry.slices[differs];
+        if library.length() != rules.length() {
+            return Some(format!("  {name} came back with {} items\n", library.length()));
+        }
+        let place = (0..rules.length()).find(|&place| rules.item(place) != library.item(place))?;
+        let head = format!("  {name} at {place}: the rules say {}, the library {}\n", rules.item(place), library.item(place));
+        Some(head + &format!("  {name} by the rules: {}\n  {name} by the library: {}\n", rules.shown(), library.shown()))
+    }
+}
+
+/// Where cases are put to be compared.
+pub struct Desk {
+    to_driver: BufWriter<ChildStdin>,
+    to_reader: Sender<Case>,
+}
+
+impl Desk {
+    /// The reader is told of the case before the driver is, so it never waits for one that it does not know. A driver that has ended is noticed by the
+    /// reader, so nothing is made of that here.
+    pub fn put(&mut self, case: Case) {
+        let request = case.request();
+        let _ = self.to_reader.send(case);
+        let _ = self.to_driver.write_all(&request);
+    }
+}
+
+fn read_u32(from: &mut impl Read) -> std::io::Result<u32> {
+    let mut word = [0; 4];
+    from.read_exact(&mut word)?;
+    Ok(u32::from_le_bytes(word))
+}
+
+/// A response's scalars and slices.
+fn read_response(from: &mut impl Read) -> std::io::Result<(Vec<i64>, Vec<Vec<u8>>)> {
+    let mut said = Vec::new();
+    for _ in 0..read_u32(from)? {
+        let mut word = [0; 8];
+        from.read_exact(&mut word)?;
+        said.push(i64::from_le_bytes(word));
+    }
+    let mut slices = Vec::new();
+    for _ in 0..read_u32(from)? {
+        let mut slice = vec![0; read_u32(from)? as usize];
+        from.read_exact(&mut slice)?;
+        slices.push(slice);
+    }
+    Ok((said, slices))
+}
+
+fn fail(text: String) -> ! {
+    println!("{text}");
+    exit(1)
+}
+
+/// Compares the library with the rules on every case that `cases` puts on the desk, and says how many those were. Ends the program at the first difference.
+/// A thread of its own makes the cases and writes the requests, so that neither pipe can block the other.
+pub fn compare(driver: &str, cases: fn(&mut Desk)) -> u64 {
+    let mut child = match Command::new(driver).stdin(Stdio::piped()).stdout(Stdio::piped()).spawn() {
+        Ok(child) => child,
+        Err(error) => fail(format!("{driver} does not start: {error}")),
+    };
+    let (to_reader, from_desk) = channel();
+    let to_driver = BufWriter::with_capacity(1 << 16, child.stdin.take().expect("the driver's input is a pipe"));
+    let mut from_driver = BufReader::with_capacity(1 << 16, child.stdout.take().expect("the driver's output is a pipe"));
+    let writer = std::thread::spawn(move || {
+        let mut desk = Desk { to_driver, to_reader };
+        cases(&mut desk);
+        let _ = desk.to_driver.flush();
+    });
+    let mut compared = 0;
+    for case in from_desk {
+        match read_response(&mut from_driver) {
+            Ok((said, slices)) => {
+                if let Some(difference) = case.difference(&said, &slices) {
+                    fail(format!("DIFFERENCE in case {}\n{}{difference}", compared + 1, case.shown()));
+                }
+            }
+            Err(error) => {
+                let status = child.wait().map_or("unknown".to_string(), |status| status.to_string());
+                fail(format!("NO RESPONSE to case {} ({error}; the driver: {status})\n{}", compared + 1, case.shown()));
+            }
+        }
+        compared += 1;
+    }
+    if writer.join().is_err() {
+        fail("the cases were not all made".to_string());
+    }
+    match child.wait() {
+        Ok(status) if status.success() => compared,
+        other => fail(format!("the driver did not end well: {other:?}")),
+    }
+}
