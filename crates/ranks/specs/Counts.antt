@@ -155,7 +155,9 @@ module _ {A : Type 0} where
       step t ih (inl e) = (List·Memᴰ·head e, subst (λ (z : A). T (f z)) (sym e) t)
       step t ih (inr k) = later (ih k)
 
-      go : (b : Bool) → f y ≡ b → (List·Memᴰ x (those f ys) → List·Memᴰ x ys × T (f x)) → List·Memᴰ x (consIf b y (those f ys)) → List·Memᴰ x (y ∷ ys) × T (f x)
+      go : (b : Bool) → f y ≡ b → (List·Memᴰ x (those f ys) → List·Memᴰ x ys × T (f x))
+          → List·Memᴰ x (consIf b y (those f ys))
+          → List·Memᴰ x (y ∷ ys) × T (f x)
       go true e ih k = step (subst T (sym e) tt) ih (List·Memᴰ·cases-cons k)
       go false e ih k = later (ih k)
 

@@ -1,3 +1,4 @@
 pub mod Counts
 pub mod Ranks
 pub mod Numbers
+pub mod Middles

@@ -1,5 +1,5 @@
--- The r-th smallest by counting: a value has rank r among the items if fewer than r lie strictly below it and at least r are at most it. The laws hold
--- for any test of order that is total and transitive; two values of one rank then lie at most each other.
+-- The r-th smallest by counting: a value has rank r among the items if fewer than r lie strictly below it and at least r are at most it.
+-- The laws hold for any test of order that is total and transitive; two values of one rank are then level: each is at most the other.
 -- Assumes nothing.
 use mathlib.Core.Path.{_≡_, refl, sym, ap, _∙_, subst, subst₂}
 use mathlib.Core.Logic.{_⊎_, inl, inr}
@@ -268,11 +268,17 @@ module _ {A : Type 0} {le : A → A → Bool} (o : Order le) where
       b : r ≤ count (upto le v) below
       b = h .enough
 
+      clash : T (under le p v) → (x : A) → List·Memᴰ x above → T (under le v x) → ⊥
+      clash vp x m t = T-not (under le p x) (of-those (not-by (under le p)) xs m .1) (under-le x v p t (under-upto v p vp))
+
       go : (t : Bool) → under le p v ≡ t → HasRank le r xs v
       go true e =
           let vp : T (under le p v) = subst T (sym e) tt in
-          let none-above = count-nothing (under le v) above (λ x m. not-T (under le v x) (λ t. T-not (under le p x) (of-those (not-by (under le p)) xs m .1) (under-le x v p t (under-upto v p vp)))) in
-          record { fewer = omega (arith, count-split (under le v) (under le p) xs); enough = omega (arith, count-split (upto le v) (under le p) xs) }
+          let none-above = count-nothing (under le v) above (λ x m. not-T (under le v x) (clash vp x m)) in
+          record {
+            fewer = omega (arith, count-split (under le v) (under le p) xs);
+            enough = omega (arith, count-split (upto le v) (under le p) xs);
+          }
       go false e =
           let pv : T (le p v) = not-not (le p v) (subst (λ (t : Bool). T (not t)) (sym e) tt) in
           let all-under = count-all (under le v) below (λ x m. under-le x p v (of-those (under le p) xs m .1) pv) in
@@ -296,6 +302,9 @@ module _ {A : Type 0} {le : A → A → Bool} (o : Order le) where
       b : r - count (upto le p) xs ≤ count (upto le v) above
       b = h .enough
 
+      clash : T (under le p v) → (x : A) → List·Memᴰ x above → T (upto le v x) → ⊥
+      clash vp x m t = T-not (le x p) (of-those (over le p) xs m .1) (o .trans x v p t (under-upto v p vp))
+
       go : (t : Bool) → le p v ≡ t → HasRank le r xs v
       go true e =
           let pv : T (le p v) = subst T (sym e) tt in
@@ -307,10 +316,13 @@ module _ {A : Type 0} {le : A → A → Bool} (o : Order le) where
           }
       go false e =
           let vp : T (under le p v) = subst (λ (t : Bool). T (not t)) (sym e) tt in
-          let none-above = count-nothing (upto le v) above (λ x m. not-T (upto le v x) (λ t. T-not (le x p) (of-those (over le p) xs m .1) (o .trans x v p t (under-upto v p vp)))) in
+          let none-above = count-nothing (upto le v) above (λ x m. not-T (upto le v x) (clash vp x m)) in
           absurd (omega arith)
 
-  pub ranked-below : (d p : A) (r : ℕ) (xs : List A) → 1 ≤ r → r ≤ count (under le p) xs → Level le (ranked le d r (those (under le p) xs)) (ranked le d r xs)
+  pub ranked-below : (d p : A) (r : ℕ) (xs : List A)
+      → 1 ≤ r
+      → r ≤ count (under le p) xs
+      → Level le (ranked le d r (those (under le p) xs)) (ranked le d r xs)
   ranked-below d p r xs low high =
       rank-by-counts d (rank-among-below p (ranked-has-rank d r (those (under le p) xs) low (omega (arith, length-those (under le p) xs))))
 
@@ -340,6 +352,9 @@ module _ {A B : Type 0} (g : A → B) (le : B → B → Bool) where
   -- the order of the items by their keys
   abbrev pub by-key : A → A → Bool
   by-key x y = le (g x) (g y)
+
+  pub by-key-order : Order le → Order by-key
+  by-key-order o = record { total = λ x y. o .total (g x) (g y); trans = λ x y z. o .trans (g x) (g y) (g z) }
 
   pub rank-of-key : {r : ℕ} {xs : List A} {v : A} → HasRank by-key r xs v → HasRank le r (map g xs) (g v)
   rank-of-key {r} {xs} {v} h =
@@ -429,5 +444,6 @@ module _ {A : Type 0} {P : A → Type 0} {le : A → A → Bool} (o : OrderOn P 
     unfolding smallest default
     rank-by-counts-on {v} Pv h =
         let hv : Held P = record { item = v; holds = Pv } in
-        let k = rank-by-counts held-order default {v = hv} (rank-of-item item-of le (subst (λ (l : List A). HasRank le r l v) (sym (held-items xs all)) h)) in
+        let g = subst (λ (l : List A). HasRank le r l v) (sym (held-items xs all)) h in
+        let k = rank-by-counts held-order default {v = hv} (rank-of-item item-of le g) in
         subst (λ (w : A). Level le v w) is-ranked (record { low = k .low; high = k .high })

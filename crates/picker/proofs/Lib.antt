@@ -1,0 +1,6 @@
+mod Passes
+mod Fives
+mod Loads
+mod Sides
+mod Answers
+pub mod Unique

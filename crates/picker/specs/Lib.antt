@@ -1,0 +1,5 @@
+pub mod Keys
+pub mod KeyLaws
+pub mod Picking
+pub mod Outcome
+pub mod Unique

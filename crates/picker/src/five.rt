@@ -1,0 +1,51 @@
+// Groups of five keys, and their middles.
+ghost use mathlib.Core.Path.{_≡_};
+ghost use mathlib.Core.List.{[], _∷_};
+ghost use Prim.Native.Nat.{_+_, _*_, _/_, _≤_, min, max};
+ghost use lib.Dec.{leb};
+ghost use lib.ListN.{length, take, drop};
+ghost use Rattle.ranks.specs.Middles.{middle};
+ghost use Rattle.picker.specs.Picking.{Middled};
+
+fn lesser(a: u32, b: u32) -> u32
+    ensures { λ r. ⌜ r ≡ min a b ⌝ }
+{
+    if a < b { a } else { b }
+}
+
+fn greater(a: u32, b: u32) -> u32
+    ensures { λ r. ⌜ r ≡ max a b ⌝ }
+{
+    if a < b { b } else { a }
+}
+
+// The middle of five keys. The least and the greatest of the first four are left out, and of the three that remain the middle is taken.
+fn middle_of(a: u32, b: u32, c: u32, d: u32, e: u32) -> u32
+    ensures { λ r. ⌜ r ≡ middle leb 0 (a ∷ b ∷ c ∷ d ∷ e ∷ []) ⌝ }
+{
+    let f = greater(lesser(a, b), lesser(c, d));
+    let g = lesser(greater(a, b), greater(c, d));
+    greater(lesser(f, g), lesser(greater(f, g), e))
+}
+
+// The middle of the five keys from place j on.
+fn middle_at(w: &[u32], j: usize) -> u32
+    requires { ⌜ j + 5 ≤ length (now w) ⌝ }
+    ensures { λ r. ⌜ r ≡ middle leb 0 (take 5 (drop j (now (w .entry)))) ⌝ }
+{
+    middle_of(w[j], w[j + 1], w[j + 2], w[j + 3], w[j + 4])
+}
+
+// Writes the middles of the groups of five among the n keys at the front of w behind these keys, and says how many they are.
+pub fn middles(w: &mut [u32], n: usize) -> usize
+    requires { ⌜ 2 * n ≤ length (now w) ⌝ }
+    ensures { λ g. ⌜ Middled (now (w .entry)) n g (now (w .exit)) ⌝ }
+{
+    let g = n / 5;
+    let mut i = 0;
+    while i < g {
+        w[n + i] = middle_at(w, 5 * i);
+        i += 1;
+    }
+    g
+}

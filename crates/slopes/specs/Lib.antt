@@ -1,0 +1,4 @@
+pub mod Fractions
+pub mod Passes
+pub mod Order
+pub mod Laws

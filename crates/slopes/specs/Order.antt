@@ -1,0 +1,155 @@
+-- Slopes whose runs are above zero are in order by cross products, and picking by a pivot among such slopes.
+-- Assumes nothing.
+use mathlib.Core.Path.{_≡_, refl, ap, _∙_, subst}
+use mathlib.Core.Bool.{Bool, true, false, cond, not}
+use mathlib.Core.List.{List, [], _∷_, map, List·Memᴰ, List·Memᴰ·head, List·Memᴰ·tail}
+use Prim.Native.Nat.{ℕ, zero, suc, _-_, _≤_, _<_}
+use native.Mathlib.Nat.{le-of-suc-le-suc, not-suc-le-zero}
+use native.Mathlib.Omega.{arith}
+use lib.Dec.{T}
+use lib.ListN.{length, getD}
+use lib.IntN.{ℤ, pos, _*ℤ_}
+use lib.Signed.{_<ℤ_, leZ-yes, ≤ℤ-refl}
+use Rattle.whole.specs.Laws.{leZ-no, <ℤ→≤ℤ}
+use Rattle.whole.specs.Solver.{var, _⊗_}
+use Rattle.whole.specs.Certificate.{from-≤, from-0<, _⊞_, _⊠_, cancel-≤}
+use Rattle.rules.specs.Lists.{those, consIf, insert, sorted}
+use Rattle.rules.specs.Picker.{ranked}
+use Rattle.rules.specs.Round.{Slope, slope-le}
+use Rattle.ranks.specs.Counts.{count, not-by, count-map, count-not, count-le-length, counted}
+use Rattle.ranks.specs.Ranks.{Order, OrderOn, Held, HasRank, Level, under, upto, over, by-key, rank-of-key, rank-of-item, rank-among-below, rank-among-above, rank-by-counts-on}
+
+-- ---- the order
+
+abbrev pub Forward : Slope → Type 0
+Forward k = pos 0 <ℤ k .run
+
+slope-total : (j k : Slope) → T (not (slope-le j k)) → T (slope-le k j)
+unfolding slope-le
+slope-total j k t = <ℤ→≤ℤ (leZ-no {a = j .rise *ℤ k .run} {b = k .rise *ℤ j .run} t) .le
+
+slope-trans : (i j k : Slope) → Forward i → Forward j → Forward k → T (slope-le i j) → T (slope-le j k) → T (slope-le i k)
+unfolding slope-le
+slope-trans i j k hi hj hk p q =
+    cancel-≤ (from-0< ρ (var 3) hj)
+    (from-≤ ρ (var 0 ⊗ var 3) (var 2 ⊗ var 1) (leZ-yes p) ⊠ from-0< ρ (var 5) hk ⊞ from-≤ ρ (var 2 ⊗ var 5) (var 4 ⊗ var 3) (leZ-yes q) ⊠ from-0< ρ (var 1) hi)
+    (var 0 ⊗ var 5) (var 4 ⊗ var 1) refl .le
+  where
+    ρ : List ℤ
+    ρ = i .rise ∷ i .run ∷ j .rise ∷ j .run ∷ k .rise ∷ k .run ∷ []
+
+pub slope-order : OrderOn Forward slope-le
+slope-order = record { total = λ j k hj hk t. slope-total j k t; trans = slope-trans }
+
+-- ---- picking by a pivot, where the test is an order among the items that P holds of
+
+twice : (b : Bool) → T b → T (not (not b))
+twice true t = tt
+twice false t = t
+
+those-map : {A B : Type 0} (f : B → Bool) (g : A → B) (xs : List A) → those f (map g xs) ≡ map g (those (λ x. f (g x)) xs)
+unfolding those
+those-map f g [] = refl
+those-map {A} {B} f g (x ∷ xs) = go (f (g x)) (those-map f g xs)
+  where
+    go : (b : Bool) → those f (map g xs) ≡ map g (those (λ x. f (g x)) xs) → consIf b (g x) (those f (map g xs)) ≡ map g (consIf b x (those (λ x. f (g x)) xs))
+    go true e = ap (λ (l : List B). g x ∷ l) e
+    go false e = e
+
+module _ {A : Type 0} {P : A → Type 0} {le : A → A → Bool} (o : OrderOn P le) where
+  abbrev item-of : Held P → A
+  item-of h = h .item
+
+  held-order : Order (by-key item-of le)
+  held-order =
+      record {
+        total = λ x y. o .total (x .item) (y .item) (x .holds) (y .holds);
+        trans = λ x y z. o .trans (x .item) (y .item) (z .item) (x .holds) (y .holds) (z .holds);
+      }
+
+  -- what is shown of items that P holds of is shown of a list of which each item is one
+  held-list : (Q : List A → Type 0) → ((hs : List (Held P)) → Q (map item-of hs)) → (xs : List A) → ((x : A) → List·Memᴰ x xs → P x) → Q xs
+  held-list Q q [] all = q []
+  held-list Q q (x ∷ xs) all =
+      held-list (λ l. Q (x ∷ l)) (λ hs. q (record { item = x; holds = all x (List·Memᴰ·head refl) } ∷ hs)) xs (λ y m. all y (List·Memᴰ·tail m))
+
+  module _ (p : A) (Pp : P p) (r : ℕ) (v : A) (Pv : P v) (xs : List A) (all : (x : A) → List·Memᴰ x xs → P x) where
+    pivot : Held P
+    pivot = record { item = p; holds = Pp }
+
+    value : Held P
+    value = record { item = v; holds = Pv }
+
+    pub rank-below-on : HasRank le r (those (under le p) xs) v → HasRank le r xs v
+    unfolding pivot value
+    rank-below-on = held-list (λ l. HasRank le r (those (under le p) l) v → HasRank le r l v) go xs all
+      where
+        go : (hs : List (Held P)) → HasRank le r (those (under le p) (map item-of hs)) v → HasRank le r (map item-of hs) v
+        go hs h =
+            rank-of-key item-of le {v = value}
+            (rank-among-below held-order pivot
+            (rank-of-item item-of le {v = value} (subst (λ (l : List A). HasRank le r l v) (those-map (under le p) item-of hs) h)))
+
+    pub rank-above-on : count (upto le p) xs < r → HasRank le (r - count (upto le p) xs) (those (over le p) xs) v → HasRank le r xs v
+    unfolding pivot value
+    rank-above-on = held-list (λ l. count (upto le p) l < r → HasRank le (r - count (upto le p) l) (those (over le p) l) v → HasRank le r l v) go xs all
+      where
+        go : (hs : List (Held P)) → count (upto le p) (map item-of hs) < r
+            → HasRank le (r - count (upto le p) (map item-of hs)) (those (over le p) (map item-of hs)) v
+            → HasRank le r (map item-of hs) v
+        go hs c h =
+            let e = count-map (upto le p) item-of hs in
+            rank-of-key item-of le {v = value}
+            (rank-among-above held-order pivot (subst (λ (n : ℕ). n < r) e c)
+            (rank-of-item item-of le {v = value}
+            (subst (λ (n : ℕ). HasRank le (r - n) (map item-of (those (λ x. over le p (x .item)) hs)) v) e
+            (subst (λ (l : List A). HasRank le (r - count (upto le p) (map item-of hs)) l v) (those-map (over le p) item-of hs) h))))
+
+-- ---- the r-th smallest does not depend on what is said where there is none
+
+module _ {A : Type 0} (le : A → A → Bool) where
+  length-insert : (x : A) (ys : List A) → length (insert le x ys) ≡ suc (length ys)
+  unfolding insert
+  length-insert x [] = refl
+  length-insert x (y ∷ ys) = go (le x y) (length-insert x ys)
+    where
+      go : (b : Bool) → length (insert le x ys) ≡ suc (length ys) → length (cond b (x ∷ y ∷ ys) (y ∷ insert le x ys)) ≡ suc (suc (length ys))
+      go true e = refl
+      go false e = ap suc e
+
+  length-sorted : (xs : List A) → length (sorted le xs) ≡ length xs
+  unfolding sorted
+  length-sorted [] = refl
+  length-sorted (x ∷ xs) = length-insert x (sorted le xs) ∙ ap suc (length-sorted xs)
+
+  at-default : (zs : List A) (k : ℕ) (d e : A) → k < length zs → getD zs k d ≡ getD zs k e
+  at-default [] k d e h = absurd (not-suc-le-zero h)
+  at-default (z ∷ zs) zero d e h = refl
+  at-default (z ∷ zs) (suc k) d e h = at-default zs k d e (le-of-suc-le-suc h)
+
+  ranked-default : (d e : A) (r : ℕ) (xs : List A) → 1 ≤ r → r ≤ length xs → ranked le d r xs ≡ ranked le e r xs
+  unfolding ranked
+  ranked-default d e r xs low high = at-default (sorted le xs) (r - 1) d e (omega (arith, length-sorted xs))
+
+-- ---- slopes
+
+slope-self : (k : Slope) → T (slope-le k k)
+unfolding slope-le
+slope-self k = ≤ℤ-refl (k .rise *ℤ k .run) .le
+
+-- a slope of the list is not below itself, and not above
+pub fewer-below : (ks : List Slope) {k : Slope} → List·Memᴰ k ks → count (under slope-le k) ks < length ks
+fewer-below ks {k} m =
+    omega (arith, count-not (under slope-le k) ks, counted (not-by (under slope-le k)) ks m (twice (slope-le k k) (slope-self k)))
+
+pub fewer-above : (ks : List Slope) {k : Slope} → List·Memᴰ k ks → count (over slope-le k) ks < length ks
+fewer-above ks {k} m =
+    omega (arith, count-not (over slope-le k) ks, counted (not-by (over slope-le k)) ks m (twice (slope-le k k) (slope-self k)))
+
+-- a slope that has rank r is level with the r-th smallest
+pub level-ranked : (ks : List Slope) → ((k : Slope) → List·Memᴰ k ks → Forward k) → (r : ℕ) (v : Slope) → List·Memᴰ v ks → HasRank slope-le r ks v
+    → (d : Slope) → Level slope-le v (ranked slope-le d r ks)
+level-ranked ks all r v m h d =
+    let low : 1 ≤ r = let a = h .fewer in omega arith in
+    let high : r ≤ length ks = let b = h .enough in omega (arith, count-le-length (upto slope-le v) ks) in
+    subst (Level slope-le v) (ranked-default slope-le v d r ks low high) (rank-by-counts-on slope-order ks all v (all v m) r (all v m) h)

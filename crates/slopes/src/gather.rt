@@ -1,0 +1,84 @@
+// A few of the slopes at the front of scratch, gathered behind them, for a pivot to be picked from.
+use super::fraction::copy;
+use super::fraction::less;
+use super::fraction::slope_at;
+ghost use Prim.Native.Nat.{_+_, _≤_, _<_};
+ghost use Rattle.slopes.specs.Passes.{Stands, Listed, Bounded, Gatherable, Gathered};
+
+// Two places, in the order of their slopes.
+struct Pair {
+    low: usize,
+    high: usize,
+}
+
+fn ordered(w: &[u32], i: usize, j: usize) -> Pair
+    requires { ⌜ Stands (now w) i × Stands (now w) j ⌝ }
+    ensures { λ r. ⌜ Bounded i j (r .low) (r .high) ⌝ }
+{
+    if less(slope_at(w, j), slope_at(w, i)) {
+        Pair { low: j, high: i }
+    } else {
+        Pair { low: i, high: j }
+    }
+}
+
+// The place of the middle of the five slopes from i on: of the first four the least and the greatest are left out, then of three.
+fn middle(w: &[u32], i: usize) -> usize
+    requires { ⌜ Listed (i + 5) (now w) ⌝ }
+    ensures { λ r. ⌜ r < i + 5 ⌝ }
+{
+    let a = ordered(w, i, i + 1);
+    let b = ordered(w, i + 2, i + 3);
+    let c = ordered(w, a.low, b.low);
+    let d = ordered(w, a.high, b.high);
+    let e = ordered(w, c.high, d.low);
+    let f = ordered(w, e.high, i + 4);
+    let g = ordered(w, e.low, f.low);
+    g.high
+}
+
+// Gathers the middles of the groups of five, and says how many they are.
+fn middles(w: &mut [u32], n: usize) -> usize
+    requires { ⌜ Gatherable n (now w) ⌝ }
+    ensures { λ r. ⌜ Gathered n (now (w .entry)) (now (w .exit)) r ⌝ }
+{
+    let g = n / 5;
+    let mut i = 0;
+    while i < g {
+        let j = middle(w, 5 * i);
+        copy(w, j, n + i);
+        i += 1;
+    }
+    g
+}
+
+// From how many slopes a sample takes one: 25 or a few more are taken, of fewer than 200 every eighth.
+fn stride(n: usize) -> usize
+    ensures { λ r. ⌜ (8 ≤ r) × (r ≤ n + 8) ⌝ }
+{
+    if n < 200 { 8 } else { n / 25 }
+}
+
+// Gathers a sample at equal distances, and says how many it has.
+fn sample(w: &mut [u32], n: usize) -> usize
+    requires { ⌜ Gatherable n (now w) ⌝ }
+    ensures { λ r. ⌜ Gathered n (now (w .entry)) (now (w .exit)) r ⌝ }
+{
+    let d = stride(n);
+    let mut g: usize = 0;
+    let mut j = 0;
+    while j < n {
+        copy(w, j, n + g);
+        g += 1;
+        j += d;
+    }
+    g
+}
+
+// Gathers the middles, or a sample.
+pub fn few(w: &mut [u32], n: usize, wide: bool) -> usize
+    requires { ⌜ Gatherable n (now w) ⌝ }
+    ensures { λ r. ⌜ Gathered n (now (w .entry)) (now (w .exit)) r ⌝ }
+{
+    if wide { middles(w, n) } else { sample(w, n) }
+}

@@ -1,0 +1,51 @@
+// The pick of a slope: the slope of a given rank among those that lie at the front of scratch, two words each. Slopes are compared by cross products and
+// never divided. A step counts the slopes below and above a pivot and keeps the one side that has the rank; correctness needs only that the pivot is
+// one of the slopes.
+mod fraction;
+mod gather;
+mod scan;
+
+ghost use Rattle.slopes.specs.Fractions.{as-slope, fractions, Pickable, Picked};
+ghost use Rattle.slopes.specs.Passes.{Pivotable, Pivoted, Answers};
+
+// Rise over run, the run above zero.
+pub struct Slope {
+    pub rise: i32,
+    pub run: i32,
+}
+
+// The slope of rank r among the q at the front of w.
+pub fn pick_slope(w: &mut [u32], q: usize, r: usize) -> Slope
+    requires { ⌜ Pickable q r (now w) ⌝ }
+    ensures { λ s. ⌜ Picked r (fractions q (now (w .entry))) (as-slope s) ⌝ }
+{
+    pick(w, q, r, false)
+}
+
+// The same, where the step before this one may have left wide more than 3/4 of its slopes.
+fn pick(w: &mut [u32], n: usize, r: usize, wide: bool) -> Slope
+    requires { ⌜ Pickable n r (now w) ⌝ }
+    ensures { λ s. ⌜ Answers r (fractions n (now (w .entry))) (as-slope s) ⌝ }
+{
+    let p = pivot(w, n, wide);
+    let s = scan::narrow(w, n, r, p);
+    let k = s.n;
+    if k == 0 {
+        return p;
+    }
+    pick(w, k, s.r, 3 * n < 4 * k)
+}
+
+// One of the n slopes at the front of w, found by picking: the middle of a sample, or after a wide step the middle of the middles of groups of five. Of a short
+// list it is the slope in the middle place.
+fn pivot(w: &mut [u32], n: usize, wide: bool) -> Slope
+    requires { ⌜ Pivotable n (now w) ⌝ }
+    ensures { λ s. ⌜ Pivoted n (now (w .entry)) (now (w .exit)) (as-slope s) ⌝ }
+{
+    if n < 40 {
+        return fraction::slope_at(w, n / 2);
+    }
+    let g = gather::few(w, n, wide);
+    let e = 2 * n;
+    pick(&mut w[e..], g, (g + 1) / 2, false)
+}
