@@ -17,6 +17,22 @@
 extern "C" {
 #endif
 
+/* ---- Rank picker. */
+#define NUOSKELMA_HAS_PICK 1
+
+typedef struct {
+    uint32_t number;
+    size_t place;
+    int32_t value;
+} nuoskelma_picked;
+
+/*
+ * The number of a rank, from 1, among numbers of any size: the rank-th smallest, repeats counted. Scratch has at least 16 words for each number and 64 more;
+ * all of it is zero afterwards.
+ * Refused: 2, over 65,536 numbers; 8, rank 0 or above their count; 4, scratch too short.
+ */
+nuoskelma_picked nuoskelma_pick(const int32_t *numbers, size_t numbers_len, size_t rank, uint32_t *scratch, size_t scratch_len);
+
 /* ---- Ring hand: goes round the corners of a ring, edge by edge. */
 #define NUOSKELMA_HAS_HAND 1
 

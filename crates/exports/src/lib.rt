@@ -2,3 +2,4 @@
 // its place. What an answer does not have is 0.
 mod doors;
 mod hands;
+mod picks;
