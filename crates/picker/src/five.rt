@@ -1,7 +1,7 @@
 // Groups of five keys, and their middles.
 ghost use mathlib.Core.Path.{_≡_};
 ghost use mathlib.Core.List.{[], _∷_};
-ghost use Prim.Native.Nat.{_+_, _*_, _/_, _≤_, min, max};
+ghost use Prim.Native.Nat.{_+_, _*_, _≤_, min, max};
 ghost use lib.Dec.{leb};
 ghost use lib.ListN.{length, take, drop};
 ghost use Rattle.ranks.specs.Middles.{middle};

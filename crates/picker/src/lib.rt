@@ -5,7 +5,6 @@ pub mod keys;
 mod scan;
 pub mod scratch;
 
-ghost use mathlib.Core.Path.{_≡_};
 ghost use lib.ListN.{take};
 ghost use Rattle.picker.specs.Picking.{Pickable, Picks, Grouped, Pivots};
 ghost use Rattle.picker.specs.Outcome.{PickPromise};
@@ -16,12 +15,13 @@ pub enum Picked {
     Refused { number: u32, place: usize },
 }
 
-// What a pick says of the keys.
+// What a pick says: the key of the asked rank.
 pub struct Ranked {
     pub key: u32,
 }
 
-// The key of rank r among the n keys at the front of w. Of what is lent only the length stays.
+// The key of rank r among the n keys at the front of w. Ten keys or fewer are counted through; more are split at the pivot, and the pick goes
+// on with the side that has the rank. Of what is lent only the length stays.
 pub fn pick_key(w: &mut [u32], n: usize, r: usize) -> Ranked
     requires { ⌜ Pickable (now w) n r ⌝ }
     ensures { λ said. ⌜ Picks (take n (now (w .entry))) r said ⌝ }

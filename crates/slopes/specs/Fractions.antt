@@ -4,7 +4,7 @@ use mathlib.Core.List.{List, [], _∷_, _++_, List·Memᴰ}
 use Prim.Native.Nat.{ℕ, zero, suc, _+_, _*_, _≤_, _<_}
 use lib.IntN.{pos, _-ℤ_}
 use lib.Signed.{_<ℤ_}
-use lib.ListN.{length, getD}
+use lib.ListN.{length, getD, set}
 use Rattle.whole.specs.Fits.{Within}
 use Rattle.rules.specs.Picker.{ranked}
 use Rattle.rules.specs.Round.{Slope, slope-le}
@@ -27,6 +27,10 @@ fraction-at w k = fraction (getD w (2 * k) 0) (getD w (2 * k + 1) 0)
 unfoldable pub fractions : ℕ → List ℕ → List Slope
 fractions zero w = []
 fractions (suc k) w = fractions k w ++ (fraction-at w k ∷ [])
+
+-- the words a and b written as slope k
+unfoldable pub put : List ℕ → ℕ → ℕ → ℕ → List ℕ
+put w k a b = set (set w (2 * k) a) (2 * k + 1) b
 
 -- two words of a slope whose run is above zero, rise and run within 2,000,000
 pub record Part (a b : ℕ) : Type 0 where

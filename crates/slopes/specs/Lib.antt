@@ -2,3 +2,4 @@ pub mod Fractions
 pub mod Passes
 pub mod Order
 pub mod Laws
+pub mod Steps

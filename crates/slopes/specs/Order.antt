@@ -1,4 +1,4 @@
--- Slopes whose runs are above zero are in order by cross products, and picking by a pivot among such slopes.
+-- Slopes whose runs are above zero are in order by cross products. The laws of picking by a pivot, for a test that is an order only among some items.
 -- Assumes nothing.
 use mathlib.Core.Path.{_≡_, refl, ap, _∙_, subst}
 use mathlib.Core.Bool.{Bool, true, false, cond, not}
@@ -42,10 +42,6 @@ pub slope-order : OrderOn Forward slope-le
 slope-order = record { total = λ j k hj hk t. slope-total j k t; trans = slope-trans }
 
 -- ---- picking by a pivot, where the test is an order among the items that P holds of
-
-twice : (b : Bool) → T b → T (not (not b))
-twice true t = tt
-twice false t = t
 
 those-map : {A B : Type 0} (f : B → Bool) (g : A → B) (xs : List A) → those f (map g xs) ≡ map g (those (λ x. f (g x)) xs)
 unfolding those
@@ -133,18 +129,23 @@ module _ {A : Type 0} (le : A → A → Bool) where
 
 -- ---- slopes
 
+twice : (b : Bool) → T b → T (not (not b))
+twice true t = tt
+twice false t = t
+
 slope-self : (k : Slope) → T (slope-le k k)
 unfolding slope-le
 slope-self k = ≤ℤ-refl (k .rise *ℤ k .run) .le
 
--- a slope of the list is not below itself, and not above
+-- a slope of the list lies neither below itself nor above
+not-itself : (test : Slope → Bool) (ks : List Slope) {k : Slope} → List·Memᴰ k ks → T (not (test k)) → count test ks < length ks
+not-itself test ks m t = omega (arith, count-not test ks, counted (not-by test) ks m t)
+
 pub fewer-below : (ks : List Slope) {k : Slope} → List·Memᴰ k ks → count (under slope-le k) ks < length ks
-fewer-below ks {k} m =
-    omega (arith, count-not (under slope-le k) ks, counted (not-by (under slope-le k)) ks m (twice (slope-le k k) (slope-self k)))
+fewer-below ks {k} m = not-itself (under slope-le k) ks m (twice (slope-le k k) (slope-self k))
 
 pub fewer-above : (ks : List Slope) {k : Slope} → List·Memᴰ k ks → count (over slope-le k) ks < length ks
-fewer-above ks {k} m =
-    omega (arith, count-not (over slope-le k) ks, counted (not-by (over slope-le k)) ks m (twice (slope-le k k) (slope-self k)))
+fewer-above ks {k} m = not-itself (over slope-le k) ks m (twice (slope-le k k) (slope-self k))
 
 -- a slope that has rank r is level with the r-th smallest
 pub level-ranked : (ks : List Slope) → ((k : Slope) → List·Memᴰ k ks → Forward k) → (r : ℕ) (v : Slope) → List·Memᴰ v ks → HasRank slope-le r ks v

@@ -4,12 +4,12 @@ use mathlib.Core.Path.{_≡_}
 use mathlib.Core.Bool.{Bool, true, false}
 use mathlib.Core.List.{List, List·Memᴰ}
 use Prim.Native.Nat.{ℕ, _+_, _*_, _≤_, _<_}
-use lib.ListN.{length, getD, set}
+use lib.ListN.{length, getD}
 use Rattle.rules.specs.Lists.{those}
 use Rattle.rules.specs.Round.{Slope, slope-le}
 use Rattle.ranks.specs.Counts.{count}
 use Rattle.ranks.specs.Ranks.{HasRank, under, over}
-use Rattle.slopes.specs.Fractions.{fraction, fractions, Part, Sound, Pickable, Near}
+use Rattle.slopes.specs.Fractions.{fraction, fractions, put, Part, Sound, Pickable, Near}
 use Rattle.slopes.specs.declared.scan.Counts as code
 
 -- k is the slope of two words
@@ -56,15 +56,15 @@ pub record Narrowed (n r : ℕ) (w v : List ℕ) (p : Slope) (k s : ℕ) : Type 
   pub none-left : k ≡ 0 → Answers r (fractions n w) p
 
 -- slope i copied to the place of slope k
-unfoldable pub copied : List ℕ → ℕ → ℕ → List ℕ
-copied w i k = set (set w (2 * k) (getD w (2 * i) 0)) (2 * k + 1) (getD w (2 * i + 1) 0)
+abbrev pub copied : List ℕ → ℕ → ℕ → List ℕ
+copied w i k = put w k (getD w (2 * i) 0) (getD w (2 * i + 1) 0)
 
 -- the same words below m
 pub record Alike (m : ℕ) (w v : List ℕ) : Type 0 where
   pub same : (j : ℕ) → j < m → getD v j 0 ≡ getD w j 0
 
 -- what lies above i and j lies above both places
-pub record Bounded (i j low high : ℕ) : Type 0 where
+pub record Capped (i j low high : ℕ) : Type 0 where
   pub below : (m : ℕ) → i < m → j < m → (low < m) × (high < m)
 
 -- there are enough slopes for a few to be gathered, and room behind them

@@ -3,7 +3,7 @@ use super::fraction::copy;
 use super::fraction::less;
 use super::fraction::slope_at;
 ghost use Prim.Native.Nat.{_+_, _≤_, _<_};
-ghost use Rattle.slopes.specs.Passes.{Stands, Listed, Bounded, Gatherable, Gathered};
+ghost use Rattle.slopes.specs.Passes.{Stands, Listed, Capped, Gatherable, Gathered};
 
 // Two places, in the order of their slopes.
 struct Pair {
@@ -13,7 +13,7 @@ struct Pair {
 
 fn ordered(w: &[u32], i: usize, j: usize) -> Pair
     requires { ⌜ Stands (now w) i × Stands (now w) j ⌝ }
-    ensures { λ r. ⌜ Bounded i j (r .low) (r .high) ⌝ }
+    ensures { λ r. ⌜ Capped i j (r .low) (r .high) ⌝ }
 {
     if less(slope_at(w, j), slope_at(w, i)) {
         Pair { low: j, high: i }

@@ -22,7 +22,7 @@ pub fn pick_slope(w: &mut [u32], q: usize, r: usize) -> Slope
     pick(w, q, r, false)
 }
 
-// The same, where the step before this one may have left wide more than 3/4 of its slopes.
+// The same; wide says that the step before left more than 3/4 of its slopes.
 fn pick(w: &mut [u32], n: usize, r: usize, wide: bool) -> Slope
     requires { ⌜ Pickable n r (now w) ⌝ }
     ensures { λ s. ⌜ Answers r (fractions n (now (w .entry))) (as-slope s) ⌝ }

@@ -2,14 +2,15 @@
 -- a step by a pivot leaves fewer. Assumes nothing.
 use mathlib.Core.Path.{refl, _∙_}
 use mathlib.Core.List.{List}
-use Prim.Native.Nat.{ℕ, _+_, _*_, _-_, _/_, _≤_, _<_}
+use Prim.Native.Nat.{ℕ, _+_, _*_, _-_, _≤_, _<_}
 use native.Mathlib.Omega.{arith}
 use borrow.Author.Needs.{needs}
 use lib.ListN.{length}
 use borrow.Rule.Slice.PartMut.{take-put, same-len-mid}
 use Rattle.slopes.specs.Fractions.{as-slope}
 use Rattle.slopes.specs.Passes.{Gatherable, Pivotable}
-use Rattle.slopes.specs.Laws.{alike-take, pivoted-in, pivoted-asks, pivoted-answer, pivot-here, gathered-asks, gathered-pivot}
+use Rattle.slopes.specs.Laws.{alike-take}
+use Rattle.slopes.specs.Steps.{stands, pivoted-in, pivoted-asks, pivoted-answer, pivot-here, gathered-asks, gathered-pivot}
 use borrow.Fn.Kinds.{In}
 use borrow.Fn.PlainCycle.{Measures, is, falls, and}
 use Rattle.slopes.proofs.pick.Reads as pick
@@ -87,11 +88,10 @@ pick-returns-2 t c =
 
 pivot-slope-at-requires : (t : ℕ) → pivot-lts.Need-slope-at-requires (slope-at-reads.Asked, slope-at-reads.Learnt, few-reads.Asked, few-reads.Learnt, pick-below t, pick.Post) (pivot-at t) pivot.Post
 pivot-slope-at-requires t c κs =
-    let s = c .before .before .before in
-    let h = s .pre .1 in
+    let h = c .before .before .before .pre .1 in
     let one = h .one in
     let room = h .room in
-    record { inside = omega arith; part = h .sound .part (s .args .n / 2) (omega arith) }
+    stands (record { inside = omega arith; sound = h .sound }) (omega arith)
 
 pivot-same-length : (t : ℕ) → pivot-lts.Need-same-length (slope-at-reads.Asked, slope-at-reads.Learnt, few-reads.Asked, few-reads.Learnt, pick-below t, pick.Post) (pivot-at t) pivot.Post
 pivot-same-length t c = refl

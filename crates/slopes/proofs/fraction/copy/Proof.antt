@@ -2,7 +2,7 @@
 use mathlib.Core.Path.{refl}
 use native.Mathlib.Omega.{arith}
 use lib.ListN.{length-set}
-use Rattle.slopes.specs.Passes.{copied}
+use Rattle.slopes.specs.Fractions.{put}
 use Rattle.slopes.proofs.fraction.copy.Statement.{statement}
 use Rattle.slopes.proofs.fraction.copy.Tie as tie
 
@@ -52,7 +52,7 @@ same-length : tie.Need-same-length
 same-length c = simp length-set
 
 returns : tie.Need-returns
-unfolding copied
+unfolding put
 returns c = refl
 
 pub copy-spec : {M : Type 1} → statement M

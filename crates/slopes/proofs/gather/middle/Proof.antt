@@ -2,7 +2,7 @@
 use Prim.Native.Nat.{_+_, _<_}
 use native.Mathlib.Omega.{arith}
 use borrow.Author.Needs.{needs}
-use Rattle.slopes.specs.Laws.{stands}
+use Rattle.slopes.specs.Steps.{stands}
 use Rattle.slopes.proofs.gather.middle.Statement.{statement}
 use Rattle.slopes.proofs.gather.middle.Tie as tie
 
@@ -10,7 +10,7 @@ add-ordered : tie.Need-add-ordered
 add-ordered c = search needs
 
 ordered-requires : tie.Need-ordered-requires
-ordered-requires c κs = let s = c .before in (stands (s .pre) (s .args .i) (omega arith), stands (s .pre) (s .args .i + 1) (omega arith))
+ordered-requires c κs = let s = c .before in (stands (s .pre) (omega arith), stands (s .pre) (omega arith))
 
 first : (c : tie.After-ordered) → (c .ordered .result .low < c .before .before .args .i + 5) × (c .ordered .result .high < c .before .before .args .i + 5)
 first c = c .ordered .ensures .below (c .before .before .args .i + 5) (omega arith) (omega arith)
@@ -22,7 +22,7 @@ add-ordered-3 : tie.Need-add-ordered-3
 add-ordered-3 c = search needs
 
 ordered-requires-2 : tie.Need-ordered-requires-2
-ordered-requires-2 c κs = let s = c .before .before in (stands (s .pre) (s .args .i + 2) (omega arith), stands (s .pre) (s .args .i + 3) (omega arith))
+ordered-requires-2 c κs = let s = c .before .before in (stands (s .pre) (omega arith), stands (s .pre) (omega arith))
 
 second : (c : tie.After-ordered2) → (c .ordered2 .result .low < c .before .before .before .args .i + 5) × (c .ordered2 .result .high < c .before .before .before .args .i + 5)
 second c = c .ordered2 .ensures .below (c .before .before .before .args .i + 5) (omega arith) (omega arith)
@@ -30,7 +30,7 @@ second c = c .ordered2 .ensures .below (c .before .before .before .args .i + 5) 
 ordered-requires-3 : tie.Need-ordered-requires-3
 ordered-requires-3 c κs =
     let all = c .before .before .before .pre in
-    (stands all (c .before .ordered .result .low) (first (c .before) .0), stands all (c .ordered2 .result .low) (second c .0))
+    (stands all (first (c .before) .0), stands all (second c .0))
 
 third : (c : tie.After-ordered3)
     → (c .ordered3 .result .low < c .before .before .before .before .args .i + 5) × (c .ordered3 .result .high < c .before .before .before .before .args .i + 5)
@@ -39,7 +39,7 @@ third c = c .ordered3 .ensures .below (c .before .before .before .before .args .
 ordered-requires-4 : tie.Need-ordered-requires-4
 ordered-requires-4 c κs =
     let all = c .before .before .before .before .pre in
-    (stands all (c .before .before .ordered .result .high) (first (c .before .before) .1), stands all (c .before .ordered2 .result .high) (second (c .before) .1))
+    (stands all (first (c .before .before) .1), stands all (second (c .before) .1))
 
 fourth : (c : tie.After-ordered4)
     → (c .ordered4 .result .low < c .before .before .before .before .before .args .i + 5)
@@ -49,7 +49,7 @@ fourth c = c .ordered4 .ensures .below (c .before .before .before .before .befor
 ordered-requires-5 : tie.Need-ordered-requires-5
 ordered-requires-5 c κs =
     let all = c .before .before .before .before .before .pre in
-    (stands all (c .before .ordered3 .result .high) (third (c .before) .1), stands all (c .ordered4 .result .low) (fourth c .0))
+    (stands all (third (c .before) .1), stands all (fourth c .0))
 
 fifth : (c : tie.After-ordered5)
     → (c .ordered5 .result .low < c .before .before .before .before .before .before .args .i + 5)
@@ -62,7 +62,7 @@ add-ordered-4 c = search needs
 ordered-requires-6 : tie.Need-ordered-requires-6
 ordered-requires-6 c κs =
     let s = c .before .before .before .before .before .before in
-    (stands (s .pre) (c .ordered5 .result .high) (fifth c .1), stands (s .pre) (s .args .i + 4) (omega arith))
+    (stands (s .pre) (fifth c .1), stands (s .pre) (omega arith))
 
 sixth : (c : tie.After-ordered6)
     → (c .ordered6 .result .low < c .before .before .before .before .before .before .before .args .i + 5)
@@ -72,7 +72,7 @@ sixth c = c .ordered6 .ensures .below (c .before .before .before .before .before
 ordered-requires-7 : tie.Need-ordered-requires-7
 ordered-requires-7 c κs =
     let all = c .before .before .before .before .before .before .before .pre in
-    (stands all (c .before .ordered5 .result .low) (fifth (c .before) .0), stands all (c .ordered6 .result .low) (sixth c .0))
+    (stands all (fifth (c .before) .0), stands all (sixth c .0))
 
 returns : tie.Need-returns
 returns c =

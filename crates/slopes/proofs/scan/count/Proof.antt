@@ -9,7 +9,7 @@ use Rattle.rules.specs.Round.{Slope, slope-le}
 use Rattle.ranks.specs.Counts.{bit, count}
 use Rattle.ranks.specs.Ranks.{under, over}
 use Rattle.slopes.specs.Fractions.{as-slope, fraction-at, fractions}
-use Rattle.slopes.specs.Laws.{count-more, count-most}
+use Rattle.slopes.specs.Steps.{count-more, count-most}
 use Rattle.slopes.proofs.Words.{byte-is, byte-most}
 use Rattle.slopes.proofs.scan.count.Statement.{statement}
 use Rattle.slopes.proofs.scan.count.Tie as tie

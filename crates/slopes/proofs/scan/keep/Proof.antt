@@ -6,7 +6,7 @@ use Prim.Native.Nat.{ℕ, _+_, _≤_, _-_}
 use native.Mathlib.Omega.{arith}
 use Rattle.slopes.specs.Fractions.{as-slope}
 use Rattle.slopes.specs.Passes.{beyond, Kept}
-use Rattle.slopes.specs.Laws.{Keeping, keeping-none, keeping-more, stands-here, inside-kept}
+use Rattle.slopes.specs.Steps.{Keeping, keeping-none, keeping-more, stands-here, inside-kept}
 use Rattle.slopes.proofs.Words.{byte-is, byte-most}
 use Rattle.slopes.proofs.scan.keep.Statement.{statement}
 use Rattle.slopes.proofs.scan.keep.Tie as tie

@@ -4,7 +4,8 @@ use borrow.Author.Needs.{needs}
 use Rattle.rules.specs.Round.{slope-le}
 use Rattle.ranks.specs.Ranks.{over}
 use Rattle.slopes.specs.Fractions.{as-slope}
-use Rattle.slopes.specs.Laws.{listed-of, near-of, count-most, narrowed-below, narrowed-above, narrowed-none}
+use Rattle.slopes.specs.Laws.{near-of}
+use Rattle.slopes.specs.Steps.{listed-of, count-most, narrowed-below, narrowed-above, narrowed-none}
 use Rattle.slopes.proofs.scan.narrow.Statement.{statement}
 use Rattle.slopes.proofs.scan.narrow.Tie as tie
 
