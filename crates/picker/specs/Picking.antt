@@ -1,14 +1,14 @@
 -- What the picker's parts promise each other, over keys in scratch. A list lies at the front of the lent part, with free room behind it.
 -- Assumes nothing.
 use mathlib.Core.Path.{_≡_}
-use mathlib.Core.Bool.{Bool}
+use mathlib.Core.Bool.{Bool, true, false}
 use mathlib.Core.List.{List}
 use Prim.Native.Nat.{ℕ, _*_, _/_, _≤_}
 use lib.Dec.{leb}
 use lib.ListN.{length, take, drop}
 use Rattle.rules.specs.Lists.{those}
 use Rattle.ranks.specs.Counts.{count}
-use Rattle.ranks.specs.Ranks.{HasRank, under, upto}
+use Rattle.ranks.specs.Ranks.{HasRank, under, upto, over}
 use Rattle.ranks.specs.Middles.{middles, middle-of-middles}
 use Rattle.picker.specs.declared.Ranked.{Ranked}
 use Rattle.picker.specs.declared.scan.Counts.{Counts}
@@ -43,6 +43,11 @@ pub record Middled (w : List ℕ) (n g : ℕ) (after : List ℕ) : Type 0 where
 pub record Counted (keys : List ℕ) (p : ℕ) (c : Counts) : Type 0 where
   pub below : c .below ≡ count (under leb p) keys
   pub upto : c .upto ≡ count (upto leb p) keys
+
+-- the test for the keys above p, or for those below it
+abbrev pub on-side : Bool → ℕ → ℕ → Bool
+on-side true p = over leb p
+on-side false p = under leb p
 
 -- the k keys that pass the test lie at the front, in their order
 pub record Kept (test : ℕ → Bool) (keys : List ℕ) (k : ℕ) (after : List ℕ) : Type 0 where

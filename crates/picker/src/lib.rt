@@ -35,13 +35,13 @@ pub fn pick_key(w: &mut [u32], n: usize, r: usize) -> Ranked
     let below = c.below;
     let upto = c.upto;
     if r <= below {
-        let k = scan::keep_below(&mut w[..n], p);
+        let k = scan::keep(&mut w[..n], p, false);
         return pick_key(w, k, r);
     }
     if r <= upto {
         return Ranked { key: p };
     }
-    let k = scan::keep_above(&mut w[..n], p);
+    let k = scan::keep(&mut w[..n], p, true);
     pick_key(w, k, r - upto)
 }
 

@@ -2,8 +2,9 @@
 ghost use Prim.Native.Nat.{_≤_};
 ghost use lib.Dec.{leb};
 ghost use lib.ListN.{length};
-ghost use Rattle.ranks.specs.Ranks.{HasRank, under, over};
-ghost use Rattle.picker.specs.Picking.{Counted, Kept};
+ghost use mathlib.Core.Path.{_≡_};
+ghost use Rattle.ranks.specs.Ranks.{HasRank};
+ghost use Rattle.picker.specs.Picking.{Counted, Kept, on-side};
 
 // How many keys are below a key, and how many are at most it.
 pub struct Counts {
@@ -26,31 +27,23 @@ pub fn count(xs: &[u32], p: u32) -> Counts
     Counts { below, upto }
 }
 
-// Moves the keys below p to the front, in their order, and says how many they are.
-pub fn keep_below(xs: &mut [u32], p: u32) -> usize
-    ensures { λ k. ⌜ Kept (under leb p) (now (xs .entry)) k (now (xs .exit)) ⌝ }
+// x lies on the asked side of p: above it, or below it.
+fn beyond(x: u32, p: u32, above: bool) -> bool
+    ensures { λ r. ⌜ r ≡ on-side above p x ⌝ }
 {
-    let mut k = 0;
-    let mut i = 0;
-    while i < xs.len() {
-        let x = xs[i];
-        xs[k] = x;
-        k += (x < p) as usize;
-        i += 1;
-    }
-    k
+    if above { p < x } else { x < p }
 }
 
-// Moves the keys above p to the front, in their order, and says how many they are.
-pub fn keep_above(xs: &mut [u32], p: u32) -> usize
-    ensures { λ k. ⌜ Kept (over leb p) (now (xs .entry)) k (now (xs .exit)) ⌝ }
+// Moves the keys on the asked side of p to the front, in their order, and says how many they are.
+pub fn keep(xs: &mut [u32], p: u32, above: bool) -> usize
+    ensures { λ k. ⌜ Kept (on-side above p) (now (xs .entry)) k (now (xs .exit)) ⌝ }
 {
     let mut k = 0;
     let mut i = 0;
     while i < xs.len() {
         let x = xs[i];
         xs[k] = x;
-        k += (p < x) as usize;
+        k += beyond(x, p, above) as usize;
         i += 1;
     }
     k

@@ -20,8 +20,7 @@ use Rattle.picker.proofs.pivot.Kinds as pivot-kinds
 use Rattle.picker.proofs.+pick_key+pivot.Lts-pivot as pivot-lts
 use Rattle.picker.proofs.five.middles.Reads as middles-reads
 use Rattle.picker.proofs.scan.count.Reads as count-reads
-use Rattle.picker.proofs.scan.keep_above.Reads as keep-above-reads
-use Rattle.picker.proofs.scan.keep_below.Reads as keep-below-reads
+use Rattle.picker.proofs.scan.keep.Reads as keep-reads
 use Rattle.picker.proofs.scan.short.Reads as short-reads
 use Rattle.picker.proofs.+pick_key+pivot.{statement}
 use Rattle.picker.proofs.+pick_key+pivot.Tie.{close}
@@ -53,12 +52,10 @@ pick-key-claims t = (
   pivot.Post,
   count-reads.Asked,
   count-reads.Learnt,
-  keep-below-reads.Asked,
-  keep-below-reads.Learnt,
+  keep-reads.Asked,
+  keep-reads.Learnt,
   pick-key-below t,
   pick-key.Post,
-  keep-above-reads.Asked,
-  keep-above-reads.Learnt,
 )
 
 abbrev pivot-claims : ℕ → pivot-lts.Claims
@@ -91,9 +88,9 @@ pick-key-requires t c κs =
     let few = kept .before .before in
     let counted = few .before in
     let after = counted .before .before .before .before in
-    let fewer = fewer-below (split t after) (kept .keep-below .kept .0) (kept .keep-below .ensures) in (
+    let fewer = fewer-below (split t after) (kept .keep .kept .0) (kept .keep .ensures) in (
       omega (arith, start-of t after .pre .0),
-      below-pickable (split t after) (kept .keep-below .kept .0) (kept .keep-below .ensures) (counted .count .ensures) (omega (arith, few .if2 .taken)),
+      below-pickable (split t after) (kept .keep .kept .0) (kept .keep .ensures) (counted .count .ensures) (omega (arith, few .if2 .taken)),
     )
 
 same-length-below : (t : ℕ) → pick-key-lts.Need-same-length-2 (pick-key-claims t) (pick-key-at t) pick-key.Post
@@ -101,13 +98,13 @@ same-length-below t c =
     let kept = c .before .before .before .before .before .before in
     let after = kept .before .before .before .before .before .before .before in
     c .before .before .pick-key .kept .0
-    ∙ kept-room (split t after) (kept .keep-below .kept .0) (kept .keep-below .ensures)
+    ∙ kept-room (split t after) (kept .keep .kept .0) (kept .keep .ensures)
     ∙ after .pivot .kept .0
 
 returns-below : (t : ℕ) → pick-key-lts.Need-returns-2 (pick-key-claims t) (pick-key-at t) pick-key.Post
 returns-below t c =
     let kept = c .before .before .before .before .before .before in
-    below-picks (split t (kept .before .before .before .before .before .before .before)) (kept .keep-below .kept .0) (kept .keep-below .ensures) (c .before .before .pick-key .ensures)
+    below-picks (split t (kept .before .before .before .before .before .before .before)) (kept .keep .kept .0) (kept .keep .ensures) (c .before .before .pick-key .ensures)
 
 -- the pivot itself
 returns-here : (t : ℕ) → pick-key-lts.Need-returns-3 (pick-key-claims t) (pick-key-at t) pick-key.Post
@@ -121,9 +118,9 @@ pick-key-requires-2 t c κs =
     let many = kept .before .before in
     let counted = many .before .before in
     let after = counted .before .before .before .before in
-    let fewer = fewer-above (split t after) (kept .keep-above .kept .0) (kept .keep-above .ensures) in (
+    let fewer = fewer-above (split t after) (kept .keep2 .kept .0) (kept .keep2 .ensures) in (
       omega (arith, start-of t after .pre .0),
-      above-pickable (split t after) (kept .keep-above .kept .0) (kept .keep-above .ensures) (counted .count .ensures) (omega (arith, many .if3 .left)),
+      above-pickable (split t after) (kept .keep2 .kept .0) (kept .keep2 .ensures) (counted .count .ensures) (omega (arith, many .if3 .left)),
     )
 
 same-length-above : (t : ℕ) → pick-key-lts.Need-same-length-4 (pick-key-claims t) (pick-key-at t) pick-key.Post
@@ -131,7 +128,7 @@ same-length-above t c =
     let kept = c .before .before .before .before .before .before in
     let after = kept .before .before .before .before .before .before .before .before in
     c .before .before .pick-key2 .kept .0
-    ∙ kept-room (split t after) (kept .keep-above .kept .0) (kept .keep-above .ensures)
+    ∙ kept-room (split t after) (kept .keep2 .kept .0) (kept .keep2 .ensures)
     ∙ after .pivot .kept .0
 
 returns-above : (t : ℕ) → pick-key-lts.Need-returns-4 (pick-key-claims t) (pick-key-at t) pick-key.Post
@@ -141,8 +138,8 @@ returns-above t c =
     let counted = many .before .before in
     above-picks
     (split t (counted .before .before .before .before))
-    (kept .keep-above .kept .0)
-    (kept .keep-above .ensures)
+    (kept .keep2 .kept .0)
+    (kept .keep2 .ensures)
     (counted .count .ensures)
     (omega (arith, many .if3 .left))
     (c .before .before .pick-key2 .ensures)
