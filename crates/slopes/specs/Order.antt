@@ -1,4 +1,4 @@
--- Slopes whose runs are above zero are in order by cross products. The laws of picking by a pivot, for a test that is an order only among some items.
+-- The laws of picking by a pivot, for a test that is an order only among some items, as slopes are by cross products where their runs are above zero.
 -- Assumes nothing.
 use mathlib.Core.Path.{_≡_, refl, ap, _∙_, subst}
 use mathlib.Core.Bool.{Bool, true, false, cond, not}
@@ -8,38 +8,14 @@ use native.Mathlib.Nat.{le-of-suc-le-suc, not-suc-le-zero}
 use native.Mathlib.Omega.{arith}
 use lib.Dec.{T}
 use lib.ListN.{length, getD}
-use lib.IntN.{ℤ, pos, _*ℤ_}
-use lib.Signed.{_<ℤ_, leZ-yes, ≤ℤ-refl}
-use Rattle.whole.specs.Laws.{leZ-no, <ℤ→≤ℤ}
-use Rattle.whole.specs.Solver.{var, _⊗_}
-use Rattle.whole.specs.Certificate.{from-≤, from-0<, _⊞_, _⊠_, cancel-≤}
+use lib.IntN.{_*ℤ_}
+use lib.Signed.{≤ℤ-refl}
 use Rattle.rules.specs.Lists.{those, consIf, insert, sorted}
 use Rattle.rules.specs.Picker.{ranked}
 use Rattle.rules.specs.Round.{Slope, slope-le}
+use Rattle.rounds.specs.Slopes.{Up, slope-order}
 use Rattle.ranks.specs.Counts.{count, not-by, count-map, count-not, count-le-length, counted}
 use Rattle.ranks.specs.Ranks.{Order, OrderOn, Held, HasRank, Level, under, upto, over, by-key, rank-of-key, rank-of-item, rank-among-below, rank-among-above, rank-by-counts-on}
-
--- ---- the order
-
-abbrev pub Forward : Slope → Type 0
-Forward k = pos 0 <ℤ k .run
-
-slope-total : (j k : Slope) → T (not (slope-le j k)) → T (slope-le k j)
-unfolding slope-le
-slope-total j k t = <ℤ→≤ℤ (leZ-no {a = j .rise *ℤ k .run} {b = k .rise *ℤ j .run} t) .le
-
-slope-trans : (i j k : Slope) → Forward i → Forward j → Forward k → T (slope-le i j) → T (slope-le j k) → T (slope-le i k)
-unfolding slope-le
-slope-trans i j k hi hj hk p q =
-    cancel-≤ (from-0< ρ (var 3) hj)
-    (from-≤ ρ (var 0 ⊗ var 3) (var 2 ⊗ var 1) (leZ-yes p) ⊠ from-0< ρ (var 5) hk ⊞ from-≤ ρ (var 2 ⊗ var 5) (var 4 ⊗ var 3) (leZ-yes q) ⊠ from-0< ρ (var 1) hi)
-    (var 0 ⊗ var 5) (var 4 ⊗ var 1) refl .le
-  where
-    ρ : List ℤ
-    ρ = i .rise ∷ i .run ∷ j .rise ∷ j .run ∷ k .rise ∷ k .run ∷ []
-
-pub slope-order : OrderOn Forward slope-le
-slope-order = record { total = λ j k hj hk t. slope-total j k t; trans = slope-trans }
 
 -- ---- picking by a pivot, where the test is an order among the items that P holds of
 
@@ -148,7 +124,7 @@ pub fewer-above : (ks : List Slope) {k : Slope} → List·Memᴰ k ks → count 
 fewer-above ks {k} m = not-itself (over slope-le k) ks m (twice (slope-le k k) (slope-self k))
 
 -- a slope that has rank r is level with the r-th smallest
-pub level-ranked : (ks : List Slope) → ((k : Slope) → List·Memᴰ k ks → Forward k) → (r : ℕ) (v : Slope) → List·Memᴰ v ks → HasRank slope-le r ks v
+pub level-ranked : (ks : List Slope) → ((k : Slope) → List·Memᴰ k ks → Up k) → (r : ℕ) (v : Slope) → List·Memᴰ v ks → HasRank slope-le r ks v
     → (d : Slope) → Level slope-le v (ranked slope-le d r ks)
 level-ranked ks all r v m h d =
     let low : 1 ≤ r = let a = h .fewer in omega arith in

@@ -17,7 +17,8 @@ use Rattle.ranks.specs.Counts.{bit, bit-le, count, count-none-of, count-cons, c
 use Rattle.ranks.specs.Ranks.{HasRank, under, upto, over}
 use Rattle.slopes.specs.Fractions.{fraction, fraction-at, fractions, Part, Sound, Pickable, Near, Picked}
 use Rattle.slopes.specs.Passes.{Shows, Stands, Listed, Kept, Answers, Narrowed, Alike, copied, Copied, Gatherable, Gathered, Pivoted}
-use Rattle.slopes.specs.Order.{slope-order, rank-below-on, rank-above-on, fewer-below, fewer-above, level-ranked}
+use Rattle.rounds.specs.Slopes.{slope-order}
+use Rattle.slopes.specs.Order.{rank-below-on, rank-above-on, fewer-below, fewer-above, level-ranked}
 use Rattle.slopes.specs.Laws.{near-part, one-more, length-fractions, place-of, near-of, fraction-in, fractions-alike, part-is, sound-alike, alike-trans, length-put, put-other, put-alike, put-rise, put-run, fractions-put, sound-put, sound-none}
 
 -- ---- the words of one slope
