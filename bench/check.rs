@@ -1,0 +1,70 @@
+//! The peers held against each other, without the library: a ratio to a peer that answers something else would say nothing.
+
+use crate::inputs::{Chance, Sheet, SHEETS};
+use crate::peers::{corners, peers};
+use crate::{andrew, literal, picking, same};
+
+pub fn check() {
+    pickers();
+    short_sheets();
+    long_sheets();
+}
+
+fn pickers() {
+    let mut chance = Chance::new(1);
+    for _ in 0..20_000 {
+        let reach = [1, 30, i32::MAX][chance.below(3)];
+        let mut list: Vec<i32> = (0..1 + chance.below(100)).map(|_| chance.between(-reach, reach)).collect();
+        let rank = 1 + chance.below(list.len());
+        let picked = picking::pick(list.clone(), rank, i32::cmp);
+        list.sort_unstable();
+        same("the plain picker, beside a sort", picked, list[rank - 1]);
+    }
+    println!("the plain picker agrees with a sort on 20,000 lists");
+}
+
+/// Holds the literal chains against Andrew's, and the literal bridge over a against the edge of Andrew's upper chain.
+fn held(sheet: &Sheet, a: i32) -> (Vec<u32>, Vec<u32>) {
+    let plain = literal::chains(sheet);
+    let swept = andrew::chains(sheet);
+    same("literal chains, beside Andrew's", &plain, &swept);
+    let over = |edge: &&[u32]| sheet.position(edge[0]).0 <= a && a < sheet.position(edge[1]).0;
+    let edge = swept.0.windows(2).find(over).map(|edge| (edge[0], edge[1]));
+    same("the literal bridge, beside an edge of Andrew's chain", literal::bridge(sheet, a), edge);
+    plain
+}
+
+fn short_sheets() {
+    let mut chance = Chance::new(2);
+    for _ in 0..60_000 {
+        let (wide, high) = ([0, 2, 9, 1_000_000][chance.below(4)], [0, 2, 9, 1_000_000][chance.below(4)]);
+        let mut sheet = Sheet::default();
+        for _ in 0..chance.below(40) {
+            sheet.push(chance.between(-wide, wide) as f64, chance.between(-high, high) as f64);
+        }
+        let a = chance.between(-wide - 1, wide + 1);
+        held(&sheet, a);
+    }
+    println!("literal chains and bridges agree with Andrew's on 60,000 sheets of up to 39 samples");
+}
+
+fn long_sheets() {
+    let peers = peers();
+    for (name, make) in SHEETS {
+        for n in [512, 4_096, 65_536] {
+            let mut chance = Chance::new(3);
+            let sheet = make(&mut chance, n);
+            let a = sheet.position(chance.below(n) as u32).0;
+            let outline = corners(&sheet, &held(&sheet, a));
+            println!("{name}, {n} samples: {} corners, literal chains and bridge agree with Andrew's", outline.len());
+            for peer in &peers {
+                let found = peer.take(&sheet).corners();
+                if found != outline {
+                    println!("  {} answers {} other corners", peer.name(), found.len());
+                }
+            }
+        }
+    }
+    let names: Vec<String> = peers.iter().map(|peer| peer.name()).collect();
+    println!("peers of other libraries: {}", if names.is_empty() { "none".to_string() } else { names.join(", ") });
+}

@@ -1,0 +1,160 @@
+//! The library's entries through its C face, those that include/nuoskelma.h says have landed.
+//!
+//! An answer of more than 16 bytes is written where a first argument points. On x86-64 that is how C hands it back; the compiled module says so outright, so
+//! for Arm it has the same plain first argument, where C would use a register of its own. Declared like this the entries are called rightly on both.
+
+/// The words of scratch that n samples or numbers need.
+pub fn scratch_for(n: usize) -> usize {
+    16 * n + 64
+}
+
+#[cfg(has_pick)]
+mod picker {
+    #[repr(C)]
+    struct Picked {
+        number: u32,
+        place: usize,
+        value: i32,
+    }
+
+    extern "C" {
+        fn nuoskelma_pick(
+            answer: *mut Picked,
+            numbers: *const i32,
+            numbers_len: usize,
+            rank: usize,
+            scratch: *mut u32,
+            scratch_len: usize,
+        ) -> *mut Picked;
+    }
+
+    /// The number of a rank, or the refusal's number.
+    pub fn pick(numbers: &[i32], rank: usize, scratch: &mut [u32]) -> Result<i32, u32> {
+        let mut answer = Picked { number: 0, place: 0, value: 0 };
+        // the lists are lent for the call alone, each with its length, and the entry takes any input
+        unsafe { nuoskelma_pick(&mut answer, numbers.as_ptr(), numbers.len(), rank, scratch.as_mut_ptr(), scratch.len()) };
+        if answer.number == 0 {
+            Ok(answer.value)
+        } else {
+            Err(answer.number)
+        }
+    }
+}
+
+#[cfg(has_pick)]
+pub use picker::pick;
+
+#[cfg(has_bridge)]
+mod bridges {
+    use crate::inputs::Sheet;
+
+    #[repr(C)]
+    struct Bridged {
+        number: u32,
+        place: usize,
+        left: u32,
+        right: u32,
+    }
+
+    extern "C" {
+        fn nuoskelma_bridge(
+            answer: *mut Bridged,
+            east: *const i32,
+            east_len: usize,
+            north: *const i32,
+            north_len: usize,
+            a: i32,
+            scratch: *mut u32,
+            scratch_len: usize,
+        ) -> *mut Bridged;
+    }
+
+    /// The bridge over a, or the refusal's number.
+    pub fn bridge(sheet: &Sheet, a: i32, scratch: &mut [u32]) -> Result<(u32, u32), u32> {
+        let mut answer = Bridged { number: 0, place: 0, left: 0, right: 0 };
+        let (east, north) = (&sheet.east, &sheet.north);
+        // as for pick
+        unsafe { nuoskelma_bridge(&mut answer, east.as_ptr(), east.len(), north.as_ptr(), north.len(), a, scratch.as_mut_ptr(), scratch.len()) };
+        if answer.number == 0 {
+            Ok((answer.left, answer.right))
+        } else {
+            Err(answer.number)
+        }
+    }
+}
+
+#[cfg(has_bridge)]
+pub use bridges::bridge;
+
+#[cfg(has_chains)]
+mod both_chains {
+    use crate::inputs::Sheet;
+
+    #[repr(C)]
+    struct Chained {
+        number: u32,
+        place: usize,
+        upper: usize,
+        lower: usize,
+    }
+
+    extern "C" {
+        fn nuoskelma_chains(
+            answer: *mut Chained,
+            east: *const i32,
+            east_len: usize,
+            north: *const i32,
+            north_len: usize,
+            upper: *mut u32,
+            upper_len: usize,
+            lower: *mut u32,
+            lower_len: usize,
+            scratch: *mut u32,
+            scratch_len: usize,
+        ) -> *mut Chained;
+    }
+
+    /// Room for the chains of a sheet.
+    pub struct Room {
+        pub upper: Vec<u32>,
+        pub lower: Vec<u32>,
+        pub scratch: Vec<u32>,
+    }
+
+    impl Room {
+        pub fn new(n: usize) -> Room {
+            Room { upper: vec![0; n], lower: vec![0; n], scratch: vec![0; super::scratch_for(n)] }
+        }
+    }
+
+    /// How many corners of each chain stand at the front of the room's lists, or the refusal's number.
+    pub fn chains(sheet: &Sheet, room: &mut Room) -> Result<(usize, usize), u32> {
+        let mut answer = Chained { number: 0, place: 0, upper: 0, lower: 0 };
+        let (east, north) = (&sheet.east, &sheet.north);
+        let Room { upper, lower, scratch } = room;
+        // as for pick
+        unsafe {
+            nuoskelma_chains(
+                &mut answer,
+                east.as_ptr(),
+                east.len(),
+                north.as_ptr(),
+                north.len(),
+                upper.as_mut_ptr(),
+                upper.len(),
+                lower.as_mut_ptr(),
+                lower.len(),
+                scratch.as_mut_ptr(),
+                scratch.len(),
+            )
+        };
+        if answer.number == 0 {
+            Ok((answer.upper, answer.lower))
+        } else {
+            Err(answer.number)
+        }
+    }
+}
+
+#[cfg(has_chains)]
+pub use both_chains::{chains, Room};
