@@ -1,0 +1,131 @@
+-- What a pair keeps, by the order of its easts and the sign of its excess over K.
+-- Assumes nothing.
+use mathlib.Core.Path.{_≡_, refl, sym, ap, ap₂, _∙_}
+use mathlib.Core.Bool.{Bool, true, false, cond, not}
+use mathlib.Core.Option.{Option, none, some}
+use mathlib.Core.List.{List, [], _∷_}
+use Prim.Native.Nat.{ℕ}
+use lib.IntN.{ℤ, pos, negℤ, _-ℤ_, _*ℤ_}
+use lib.Signed.{_≤ℤ_, _<ℤ_, leZ, ltZ}
+use Rattle.whole.specs.Linear.{order, difference, negation}
+use Rattle.whole.specs.Laws.{leZ-not-ltZ, lt-test, nlt-test, test-lt, test-nlt}
+use Rattle.whole.specs.Solver.{var, _⊖_, _⊗_, ⊝_, ring}
+use Rattle.rules.specs.Streams.{Stream}
+use Rattle.rules.specs.Round.{Slope, slope, slope-le, pair, Tops, west, east, keeps-of, keeps}
+use Rattle.round.specs.Keeping.{excess, chosen}
+
+-- ---- an order by the sign of the difference
+
+same-order : (a b c d : ℤ) → (a <ℤ b → c <ℤ d) → (b ≤ℤ a → d ≤ℤ c) → ltZ a b ≡ ltZ c d
+same-order a b c d f g = go (ltZ a b) refl
+  where
+    go : (t : Bool) → ltZ a b ≡ t → t ≡ ltZ c d
+    go true e = sym (lt-test (f (test-lt a b e)))
+    go false e = sym (nlt-test (g (test-nlt a b e)))
+
+below-zero : (a b : ℤ) → ltZ b a ≡ ltZ (b -ℤ a) (pos 0)
+below-zero a b = same-order b a (b -ℤ a) (pos 0) (λ h. omega (order, difference b a)) (λ h. omega (order, difference b a))
+
+above-zero : (a b : ℤ) → ltZ a b ≡ ltZ (pos 0) (b -ℤ a)
+above-zero a b = same-order a b (pos 0) (b -ℤ a) (λ h. omega (order, difference b a)) (λ h. omega (order, difference b a))
+
+negated : (a b : ℤ) → ltZ (negℤ b) (negℤ a) ≡ ltZ a b
+negated a b = same-order (negℤ b) (negℤ a) a b (λ h. omega (order, negation a, negation b)) (λ h. omega (order, negation a, negation b))
+
+-- ---- K against the slope of the way from p to q, and of the way back
+
+module _ (K : Slope) (p q : Stream) where
+  -- the two sides of the comparison
+  rising : ℤ
+  rising = K .rise *ℤ (q .east -ℤ p .east)
+
+  risen : ℤ
+  risen = (q .north -ℤ p .north) *ℤ K .run
+
+  steeper : slope-le K (slope p q) ≡ not (ltZ (excess K p q) (pos 0))
+  unfolding slope-le rising risen
+  steeper = leZ-not-ltZ rising risen ∙ ap not (below-zero rising risen)
+
+  flatter : slope-le (slope p q) K ≡ not (ltZ (pos 0) (excess K p q))
+  unfolding slope-le rising risen
+  flatter = leZ-not-ltZ risen rising ∙ ap not (above-zero rising risen)
+
+  back-rising : K .rise *ℤ (p .east -ℤ q .east) ≡ negℤ rising
+  unfolding rising
+  back-rising = ring (K .rise ∷ p .east ∷ q .east ∷ []) (var 0 ⊗ (var 1 ⊖ var 2)) (⊝ (var 0 ⊗ (var 2 ⊖ var 1))) refl
+
+  back-risen : (p .north -ℤ q .north) *ℤ K .run ≡ negℤ risen
+  unfolding risen
+  back-risen = ring (K .run ∷ p .north ∷ q .north ∷ []) ((var 1 ⊖ var 2) ⊗ var 0) (⊝ ((var 2 ⊖ var 1) ⊗ var 0)) refl
+
+  steeper-back : slope-le K (slope q p) ≡ not (ltZ (pos 0) (excess K p q))
+  unfolding slope-le rising risen
+  steeper-back = ap₂ leZ back-rising back-risen ∙ leZ-not-ltZ (negℤ rising) (negℤ risen) ∙ ap not (negated rising risen ∙ above-zero rising risen)
+
+  flatter-back : slope-le (slope q p) K ≡ not (ltZ (excess K p q) (pos 0))
+  unfolding slope-le rising risen
+  flatter-back = ap₂ leZ back-risen back-rising ∙ leZ-not-ltZ (negℤ risen) (negℤ rising) ∙ ap not (negated risen rising ∙ below-zero rising risen)
+
+-- ---- what the pair keeps
+
+only-second : (x y : ℕ) (b : Bool) → cond (not b) (y ∷ []) (x ∷ y ∷ []) ≡ chosen b true x y
+only-second x y true = refl
+only-second x y false = refl
+
+only-first : (x y : ℕ) (b : Bool) → cond (not b) (x ∷ []) (x ∷ y ∷ []) ≡ chosen true b x y
+only-first x y true = refl
+only-first x y false = refl
+
+module _ (at : ℕ → Stream) (K : Slope) (x y : ℕ) where
+  abbrev over : ℤ
+  over = excess K (at x) (at y)
+
+  module _ (h : ltZ (at x .east) (at y .east) ≡ true) where
+    has-slope : (t : Tops) → keeps at t (pair x y) ≡ keeps-of at t (some (slope (at x) (at y))) x y
+    has-slope t =
+        ap
+        (λ (b : Bool). keeps-of at t (cond b (some (slope (at x) (at y))) (cond (ltZ (at y .east) (at x .east)) (some (slope (at y) (at x))) none)) x y)
+        h
+
+    -- the first lies west
+    pub west-pair-west : keeps at (west K) (pair x y) ≡ chosen (ltZ over (pos 0)) true x y
+    west-pair-west =
+        has-slope (west K)
+        ∙ ap₂ (λ (b c : Bool). cond b (cond c y x ∷ []) (x ∷ y ∷ [])) (steeper K (at x) (at y)) h
+        ∙ only-second x y (ltZ over (pos 0))
+
+    pub west-pair-east : keeps at (east K) (pair x y) ≡ chosen true (ltZ (pos 0) over) x y
+    west-pair-east =
+        has-slope (east K)
+        ∙ ap₂ (λ (b c : Bool). cond b (cond c x y ∷ []) (x ∷ y ∷ [])) (flatter K (at x) (at y)) h
+        ∙ only-first x y (ltZ (pos 0) over)
+
+  module _ (h : ltZ (at x .east) (at y .east) ≡ false) where
+    module _ (g : ltZ (at y .east) (at x .east) ≡ true) where
+      has-slope-back : (t : Tops) → keeps at t (pair x y) ≡ keeps-of at t (some (slope (at y) (at x))) x y
+      has-slope-back t =
+          ap₂ (λ (b c : Bool). keeps-of at t (cond b (some (slope (at x) (at y))) (cond c (some (slope (at y) (at x))) none)) x y) h g
+
+      -- the second lies west
+      pub east-pair-west : keeps at (west K) (pair x y) ≡ chosen true (ltZ (pos 0) over) x y
+      east-pair-west =
+          has-slope-back (west K)
+          ∙ ap₂ (λ (b c : Bool). cond b (cond c y x ∷ []) (x ∷ y ∷ [])) (steeper-back K (at x) (at y)) h
+          ∙ only-first x y (ltZ (pos 0) over)
+
+      pub east-pair-east : keeps at (east K) (pair x y) ≡ chosen (ltZ over (pos 0)) true x y
+      east-pair-east =
+          has-slope-back (east K)
+          ∙ ap₂ (λ (b c : Bool). cond b (cond c x y ∷ []) (x ∷ y ∷ [])) (flatter-back K (at x) (at y)) h
+          ∙ only-second x y (ltZ over (pos 0))
+
+    -- neither does
+    pub upright-pair : (t : Tops) → ltZ (at y .east) (at x .east) ≡ false
+        → keeps at t (pair x y) ≡ chosen (not (ltZ (at x .north) (at y .north))) (ltZ (at x .north) (at y .north)) x y
+    upright-pair t g =
+        ap₂ (λ (b c : Bool). keeps-of at t (cond b (some (slope (at x) (at y))) (cond c (some (slope (at y) (at x))) none)) x y) h g
+        ∙ go (ltZ (at x .north) (at y .north))
+      where
+        go : (b : Bool) → cond b y x ∷ [] ≡ chosen (not b) b x y
+        go true = refl
+        go false = refl

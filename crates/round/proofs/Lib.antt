@@ -1,0 +1,11 @@
+pub mod Words
+pub mod Places
+pub mod Pairing
+pub mod Sloping
+pub mod Topping
+pub mod Choosing
+pub mod Fronting
+pub mod Rounding
+pub mod Saying
+pub mod Answering
+pub mod Outcomes

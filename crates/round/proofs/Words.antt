@@ -1,0 +1,62 @@
+-- The numbers of positions and slopes as words: the bounds from which the sums and products of the code fit.
+-- Assumes nothing.
+use mathlib.Core.Path.{_≡_, refl, ap, subst⁻¹}
+use mathlib.Core.List.{List, [], _∷_}
+use Prim.Native.Nat.{ℕ, _^_}
+use native.Mathlib.Nat.{lt-of-le-of-lt}
+use lib.Dec.{T, ltb, ltb→lt}
+use lib.IntN.{ℤ, pos, negsuc, natAbs}
+use lib.Signed.{nonNeg, _≤ℤ_}
+use mir.Syntax.{w32, w64}
+use mir.Val.{Fits, toZ, ofZ}
+use Rattle.whole.specs.Solver.{Ex, var, eval}
+use Rattle.whole.specs.Fits.{Within, Held, Leaves, Bounded, []ʷ, _∷ʷ_, _∷ᶜ_, cast-within, value-fits, value-within, bound, safe, word, word-is}
+use Rattle.rules.specs.Streams.{Stream}
+use Rattle.rules.specs.Round.{Slope}
+use Rattle.slopes.specs.Fractions as fractions
+use Rattle.samples.specs.Positions.{Near}
+
+-- a number of a slope, read as 32 bits
+abbrev read : ℤ → ℤ
+read z = toZ w32 (ofZ w32 z)
+
+held : {z : ℤ} → Within z 2000000 → Held (read z) z 2000000
+held h = cast-within (value-fits w32 (h ∷ʷ []ʷ) (var 0) tt) h
+
+-- K's run, a north, K's rise, an east
+pub height-leaves : {p : Stream} {K : Slope} → Near p → fractions.Near K
+    → Leaves (read (K .run) ∷ p .north ∷ read (K .rise) ∷ p .east ∷ []) (K .run ∷ p .north ∷ K .rise ∷ p .east ∷ []) (2000000 ∷ 1000000 ∷ 2000000 ∷ 1000000 ∷ [])
+height-leaves h k = held (k .run-near) ∷ᶜ h .north-near ∷ʷ held (k .rise-near) ∷ᶜ h .east-near ∷ʷ []ʷ
+
+-- two positions: the east and the north of the first, and those of the second
+pub two-leaves : {p q : Stream} → Near p → Near q
+    → Bounded (p .east ∷ p .north ∷ q .east ∷ q .north ∷ []) (1000000 ∷ 1000000 ∷ 1000000 ∷ 1000000 ∷ [])
+two-leaves h k = h .east-near ∷ʷ h .north-near ∷ʷ k .east-near ∷ʷ k .north-near ∷ʷ []ʷ
+
+-- and K's run and rise
+pub excess-leaves : {p q : Stream} {K : Slope} → Near p → Near q → fractions.Near K
+    → Leaves (p .east ∷ p .north ∷ q .east ∷ q .north ∷ read (K .run) ∷ read (K .rise) ∷ [])
+    (p .east ∷ p .north ∷ q .east ∷ q .north ∷ K .run ∷ K .rise ∷ [])
+    (1000000 ∷ 1000000 ∷ 1000000 ∷ 1000000 ∷ 2000000 ∷ 2000000 ∷ [])
+excess-leaves h j k =
+    h .east-near ∷ʷ h .north-near ∷ʷ j .east-near ∷ʷ j .north-near ∷ʷ held (k .run-near) ∷ᶜ held (k .rise-near) ∷ᶜ []ʷ
+
+-- ---- a number that is not below 0, cast to an unsigned word
+
+-- it is its size
+pub natural : {z : ℤ} → pos 0 ≤ℤ z → pos (natAbs z) ≡ z
+natural {z = pos n} h = refl
+natural {z = negsuc n} h = absurd (h .le)
+
+non-negative : {z : ℤ} → pos 0 ≤ℤ z → T (nonNeg z)
+non-negative {z = pos n} h = tt
+non-negative {z = negsuc n} h = absurd (h .le)
+
+module _ {σ ρ : List ℤ} {βs : List ℕ} (l : Leaves σ ρ βs) (e : Ex) (t : T (safe w64 βs e)) where
+  pub cast-unsigned : T (ltb (bound βs e) (2 ^ 32)) → pos 0 ≤ℤ eval ρ e → T (nonNeg (word w64 σ e)) × Fits w32 (natAbs (word w64 σ e))
+  cast-unsigned small h =
+      subst⁻¹ (λ (z : ℤ). T (nonNeg z) × Fits w32 (natAbs z)) (word-is w64 l e t)
+      (non-negative h, record { fits = lt-of-le-of-lt (value-within l e .within) (ltb→lt (bound βs e) (2 ^ 32) small) })
+
+  pub unsigned-is : natAbs (word w64 σ e) ≡ natAbs (eval ρ e)
+  unsigned-is = ap natAbs (word-is w64 l e t)

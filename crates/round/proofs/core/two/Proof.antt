@@ -1,0 +1,24 @@
+-- `round::core::two` meets its contract. Assumes nothing.
+use mathlib.Core.Path.{_≡_, refl, sym, ap₂, _∙_}
+use mathlib.Core.Bool.{Bool}
+use borrow.Author.Needs.{needs, sfits-of}
+use lib.Signed.{ltZ}
+use mir.Facts.{toZ-ofZ}
+use Rattle.samples.specs.Positions.{east-of}
+use Rattle.round.proofs.core.two.Statement.{statement}
+use Rattle.round.proofs.core.two.Tie as tie
+
+-- the test of the two easts
+tested : (c : tie.After-east2)
+    → ltZ (mir.Val.toZ mir.Syntax.w64 (mir.Val.ofZ mir.Syntax.w64 (c .before .east .result))) (mir.Val.toZ mir.Syntax.w64 (mir.Val.ofZ mir.Syntax.w64 (c .east2 .result)))
+    ≡ ltZ (east-of (c .before .before .args .e .now) (c .before .before .args .x)) (east-of (c .before .before .args .e .now) (c .before .before .args .y))
+tested c = ap₂ ltZ (toZ-ofZ (sfits-of (c .before .east .ok)) ∙ c .before .east .ensures) (toZ-ofZ (sfits-of (c .east2 .ok)) ∙ c .east2 .ensures)
+
+returns : tie.Need-returns
+returns c = rw (sym (tested (c .before)) ∙ c .if1 .taken)
+
+returns-2 : tie.Need-returns-2
+returns-2 c = rw (sym (tested (c .before)) ∙ c .if1 .left)
+
+pub two-spec : {M : Type 1} → statement M
+two-spec = tie.close (tie.spec (λ c κs. search needs) (λ c κs. search needs) returns returns-2)

@@ -1,0 +1,130 @@
+-- `round::keep::of_pair` meets its contract: each return is what the tested orders leave of the pair. Assumes nothing.
+use mathlib.Core.Path.{_≡_, refl, sym, ap, ap₂, _∙_, subst}
+use mathlib.Core.Bool.{Bool, true, false, not}
+use Prim.Native.Nat.{ℕ, _^_, _<_}
+use borrow.Author.Needs.{needs, sfits-of}
+use lib.IntN.{ℤ, pos}
+use lib.Signed.{mag, ltZ}
+use lib.ListN.{length}
+use mir.Syntax.{w64}
+use mir.Val.{toZ, ofZ}
+use mir.Facts.{toZ-ofZ}
+use Rattle.rules.specs.Streams.{Stream}
+use Rattle.rules.specs.Round.{Tops, Slope, pair, west, east, keeps}
+use Rattle.slopes.specs.Fractions.{as-slope}
+use Rattle.samples.specs.Positions.{Near, at}
+use Rattle.samples.specs.Samples.{near-at}
+use Rattle.round.specs.Keeping.{excess, towards, chosen}
+use Rattle.round.proofs.Choosing.{west-pair-west, west-pair-east, east-pair-west, east-pair-east, upright-pair}
+use Rattle.round.proofs.keep.of_pair.Statement.{statement}
+use Rattle.round.proofs.keep.of_pair.Tie as tie
+
+excess-requires : tie.Need-excess-requires
+excess-requires c κs =
+    let s = c .before .before in
+    let h = s .pre .sampled in (
+      subst Near (sym (c .before .position-of .ensures)) (near-at h (s .args .lower) (s .args .x)),
+      (subst Near (sym (c .position-of2 .ensures)) (near-at h (s .args .lower) (s .args .y)), s .pre .near),
+    )
+
+-- a number of a position, read from its word
+read : (z : ℤ) {y : ℤ} → mag z < 2 ^ 63 → z ≡ y → toZ w64 (ofZ w64 z) ≡ y
+read z h e = toZ-ofZ (sfits-of {w = w64} h) ∙ e
+
+-- what is known where the easts are first compared
+module _ (d : tie.After-struct-told2) where
+  abbrev start : tie.Start
+  start = d .before .before .before .before .before .before .before
+
+  abbrev places : ℕ → Stream
+  places = at (start .args .e .now) (start .args .n .now) (start .args .lower)
+
+  abbrev K : Slope
+  K = as-slope (start .args .k)
+
+  abbrev x : ℕ
+  x = start .args .x
+
+  abbrev y : ℕ
+  y = start .args .y
+
+  first-is : d .before .before .before .before .before .before .position-of .result .east ≡ places x .east
+  first-is = ap (λ (s : Stream). s .east) (d .before .before .before .before .before .before .position-of .ensures)
+
+  second-is : d .before .before .before .before .before .position-of2 .result .east ≡ places y .east
+  second-is = ap (λ (s : Stream). s .east) (d .before .before .before .before .before .position-of2 .ensures)
+
+  abbrev first-word : ℤ
+  first-word = toZ w64 (ofZ w64 (d .before .before .before .before .before .before .position-of .result .east))
+
+  abbrev second-word : ℤ
+  second-word = toZ w64 (ofZ w64 (d .before .before .before .before .before .position-of2 .result .east))
+
+  easts : (ltZ first-word second-word ≡ ltZ (places x .east) (places y .east)) × (ltZ second-word first-word ≡ ltZ (places y .east) (places x .east))
+  easts =
+      let p = read (d .before .before .before .before .before .before .position-of .result .east) (d .before .before .struct-told .given .0 .1) first-is in
+      let q = read (d .before .before .before .before .before .position-of2 .result .east) (d .struct-told2 .given .0 .1) second-is in
+      (ap₂ ltZ p q, ap₂ ltZ q p)
+
+  over-is : toZ w64 (ofZ w64 (d .before .before .before .before .excess .result)) ≡ excess K (places x) (places y)
+  over-is =
+      read (d .before .before .before .before .excess .result) (d .before .before .before .before .excess .ok)
+      (d .before .before .before .before .excess .ensures ∙ ap₂ (excess K) (d .before .before .before .before .before .before .position-of .ensures) (d .before .before .before .before .before .position-of2 .ensures))
+
+  below : ltZ (excess K (places x) (places y)) (pos 0) ≡ ltZ (toZ w64 (ofZ w64 (d .before .before .before .before .excess .result))) (pos 0)
+  below = ap (λ (z : ℤ). ltZ z (pos 0)) (sym over-is)
+
+  above : ltZ (pos 0) (excess K (places x) (places y)) ≡ ltZ (pos 0) (toZ w64 (ofZ w64 (d .before .before .before .before .excess .result)))
+  above = ap (ltZ (pos 0)) (sym over-is)
+
+  -- the norths, and the side that the tops lie on
+  norths : ltZ (places x .north) (places y .north)
+      ≡ ltZ (toZ w64 (ofZ w64 (d .before .before .before .before .before .before .position-of .result .north))) (toZ w64 (ofZ w64 (d .before .before .before .before .before .position-of2 .result .north)))
+  norths =
+      sym
+      (ap₂
+      ltZ
+      (read (d .before .before .before .before .before .before .position-of .result .north) (d .before .before .struct-told .given .1 .0 .1) (ap (λ (s : Stream). s .north) (d .before .before .before .before .before .before .position-of .ensures)))
+      (read (d .before .before .before .before .before .position-of2 .result .north) (d .struct-told2 .given .1 .0 .1) (ap (λ (s : Stream). s .north) (d .before .before .before .before .before .position-of2 .ensures))))
+
+  side : {l b : Bool} → l ≡ b → keeps places (towards l K) (pair x y) ≡ keeps places (towards b K) (pair x y)
+  side p = ap (λ (l : Bool). keeps places (towards l K) (pair x y)) p
+
+returns : tie.Need-returns
+returns c =
+    let d = c .before .before in
+    side d (c .if2 .taken)
+    ∙ west-pair-west (places d) (K d) (x d) (y d) (sym (easts d .0) ∙ c .before .if1 .taken)
+    ∙ ap (λ (b : Bool). chosen b true (x d) (y d)) (below d)
+
+returns-2 : tie.Need-returns-2
+returns-2 c =
+    let d = c .before .before in
+    side d (c .if2 .left)
+    ∙ west-pair-east (places d) (K d) (x d) (y d) (sym (easts d .0) ∙ c .before .if1 .taken)
+    ∙ ap (λ (b : Bool). chosen true b (x d) (y d)) (above d)
+
+returns-3 : tie.Need-returns-3
+returns-3 c =
+    let d = c .before .before .before .before .before .before .before in
+    side d (c .if4 .taken)
+    ∙ east-pair-west (places d) (K d) (x d) (y d) (sym (easts d .0) ∙ c .before .before .before .before .before .before .if1 .left) (sym (easts d .1) ∙ c .before .if3 .taken)
+    ∙ ap (λ (b : Bool). chosen true b (x d) (y d)) (above d)
+
+returns-4 : tie.Need-returns-4
+returns-4 c =
+    let d = c .before .before .before .before .before .before .before in
+    side d (c .if4 .left)
+    ∙ east-pair-east (places d) (K d) (x d) (y d) (sym (easts d .0) ∙ c .before .before .before .before .before .before .if1 .left) (sym (easts d .1) ∙ c .before .if3 .taken)
+    ∙ ap (λ (b : Bool). chosen b true (x d) (y d)) (below d)
+
+returns-5 : tie.Need-returns-5
+returns-5 c =
+    let d = c .before .before .before .before .before .before .before .before .before .before in
+    upright-pair (places d) (K d) (x d) (y d) (sym (easts d .0) ∙ c .before .before .before .before .before .before .before .before .before .if1 .left) _ (sym (easts d .1) ∙ c .before .before .before .before .if3 .left)
+    ∙ ap (λ (b : Bool). chosen (not b) b (x d) (y d)) (norths d)
+
+pub of-pair-spec : {M : Type 1} → statement M
+of-pair-spec =
+    tie.close
+    (tie.spec (λ c κs. search needs) (λ c κs. search needs) excess-requires returns returns-2 returns-3 returns-4 returns-5)

@@ -1,0 +1,91 @@
+// What the pairs of a list keep, once it is known where the tops lie.
+use samples::position::Position;
+use samples::position::position_of;
+use slopes::Slope;
+ghost use mathlib.Core.List.{_∷_, []};
+ghost use mathlib.Core.Path.{_≡_};
+ghost use Prim.Native.Nat.{_<_};
+ghost use lib.ListN.{length};
+ghost use Rattle.rules.specs.Round.{pair, keeps};
+ghost use Rattle.slopes.specs.Fractions.{as-slope};
+ghost use Rattle.slopes.specs.Fractions as fractions;
+ghost use Rattle.samples.specs.Positions.{Near, at, place, Sampled};
+ghost use Rattle.round.specs.Keeping.{excess, towards, chosen, PairAsks, KeepAsks, KeptFront};
+
+// Which of a pair are kept.
+pub struct Keeps {
+    pub first: bool,
+    pub second: bool,
+}
+
+// How much steeper than K the way from p to q is, times K's run and the way's. The way may go east or west.
+fn excess(p: Position, q: Position, k: Slope) -> i64
+    requires { ⌜ Near (place p) × (Near (place q) × fractions.Near (as-slope k)) ⌝ }
+    ensures { λ r. ⌜ r ≡ excess (as-slope k) (place p) (place q) ⌝ }
+{
+    (q.north - p.north) * (k.run as i64) - (k.rise as i64) * (q.east - p.east)
+}
+
+// What a pair keeps where the tops lie west, all at most a, or else all above a.
+fn of_pair(e: &[i32], n: &[i32], lower: bool, x: u32, y: u32, k: Slope, west: bool) -> Keeps
+    requires { ⌜ PairAsks (now e) (now n) x y (as-slope k) ⌝ }
+    ensures { λ r. ⌜ keeps (at (now (e .entry)) (now (n .entry)) lower) (towards west (as-slope k)) (pair x y) ≡ chosen (r .first) (r .second) x y ⌝ }
+{
+    let p = position_of(e, n, x, lower);
+    let q = position_of(e, n, y, lower);
+    let c = excess(p, q, k);
+    if p.east < q.east {
+        if west {
+            return Keeps {
+                first: c < 0,
+                second: true,
+            };
+        }
+        return Keeps {
+            first: true,
+            second: 0 < c,
+        };
+    }
+    if q.east < p.east {
+        if west {
+            return Keeps {
+                first: true,
+                second: 0 < c,
+            };
+        }
+        return Keeps {
+            first: c < 0,
+            second: true,
+        };
+    }
+    let up = p.north < q.north;
+    Keeps {
+        first: !up,
+        second: up,
+    }
+}
+
+// Keeps at the front of the list what its pairs keep, in list order, and says how many they are. Both of a pair are stored, and the place moves on by
+// the tests. An odd last one is kept.
+pub fn keep(e: &[i32], n: &[i32], lower: bool, w: &mut [u32], k: Slope, west: bool) -> usize
+    requires { ⌜ KeepAsks (now e) (now n) (now w) (as-slope k) ⌝ }
+    ensures { λ m. ⌜ KeptFront (at (now (e .entry)) (now (n .entry)) lower) (towards west (as-slope k)) (now (w .entry)) m (now (w .exit)) ⌝ }
+{
+    let mut out: usize = 0;
+    let mut i = 0;
+    while i + 1 < w.len() {
+        let x = w[i];
+        let y = w[i + 1];
+        let g = of_pair(e, n, lower, x, y, k, west);
+        w[out] = x;
+        out += g.first as usize;
+        w[out] = y;
+        out += g.second as usize;
+        i += 2;
+    }
+    if i < w.len() {
+        w[out] = w[i];
+        out += 1;
+    }
+    out
+}

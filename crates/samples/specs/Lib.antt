@@ -1,0 +1,4 @@
+pub mod Positions
+pub mod Scans
+pub mod Samples
+pub mod Tests

@@ -1,0 +1,93 @@
+-- The rules' tests in order, as an entry makes them: the first that holds refuses, and where none does they are passed.
+-- Assumes nothing.
+use mathlib.Core.Path.{_≡_, refl, sym, ap, _∙_}
+use mathlib.Core.Bool.{Bool, true, false, cond, not, _&&_, _||_}
+use mathlib.Core.List.{List, [], _∷_, _++_}
+use Prim.Native.Nat.{ℕ, _+_, _*_}
+use native.Mathlib.Omega.{arith}
+use lib.IntN.{ℤ}
+use lib.Dec.{T, ltb, eqb}
+use lib.ListN.{length}
+use Rattle.rules.specs.Lists.{zeros}
+use Rattle.rules.specs.Streams.{streams}
+use Rattle.rules.specs.Refusals.{Answer, refused, done, Test, test, unless, lengths-differ, too-many, part-beyond}
+use Rattle.samples.specs.declared.tests.Tested.{Tested}
+use Rattle.samples.specs.declared.tests.Tested.the-variants.{Passed, Refused}
+
+abbrev pub tested-of : List Test → Tested
+tested-of [] = Passed
+tested-of (t ∷ ts) = cond (t .holds) (Refused (t .number) (t .place)) (tested-of ts)
+
+-- the tests of samples with so many words of scratch: 1, 2, 3, 4
+abbrev pub sample-tests : List ℤ → List ℤ → ℕ → List Test
+sample-tests es ns room =
+    lengths-differ es ns ∷ too-many (length es) ∷ part-beyond (streams es ns) ∷ test 4 0 (ltb room (16 * length es + 64)) ∷ []
+
+-- ---- all of them
+
+-- none holds
+abbrev pub None-hold : List Test → Type 0
+None-hold [] = Unit {0}
+None-hold (t ∷ ts) = (t .holds ≡ false) × None-hold ts
+
+-- a test that holds refuses after others that do not
+pub refused-at : (us : List Test) (t : Test) (ts : List Test) → None-hold us → t .holds ≡ true → tested-of (us ++ (t ∷ ts)) ≡ Refused (t .number) (t .place)
+refused-at [] t ts n e = ap (λ (b : Bool). cond b (Refused (t .number) (t .place)) (tested-of ts)) e
+refused-at (u ∷ us) t ts n e =
+    ap (λ (b : Bool). cond b (Refused (u .number) (u .place)) (tested-of (us ++ (t ∷ ts)))) (n .0) ∙ refused-at us t ts (n .1) e
+
+pub passed-by : (ts : List Test) → None-hold ts → tested-of ts ≡ Passed
+passed-by [] n = refl
+passed-by (t ∷ ts) n = ap (λ (b : Bool). cond b (Refused (t .number) (t .place)) (tested-of ts)) (n .0) ∙ passed-by ts (n .1)
+
+pub passed-tests : (ts : List Test) → tested-of ts ≡ Passed → None-hold ts
+passed-tests [] e = tt
+passed-tests (t ∷ ts) e = go (t .holds) refl e (λ f. passed-tests ts f)
+  where
+    go : (b : Bool) → t .holds ≡ b → cond b (Refused (t .number) (t .place)) (tested-of ts) ≡ Passed → (tested-of ts ≡ Passed → None-hold ts)
+        → (t .holds ≡ false) × None-hold ts
+    go true p f r = let z : _≡_ {A = ℕ} 0 1 = cc in absurd (omega arith)
+    go false p f r = (p, r f)
+
+module _ {A : Type 0} where
+  -- passed tests leave what comes after them
+  pub passed-unless : (ts us : List Test) (x : A) → tested-of ts ≡ Passed → unless (ts ++ us) x ≡ unless us x
+  passed-unless [] us x e = refl
+  passed-unless (t ∷ ts) us x e = go (t .holds) e (λ f. passed-unless ts us x f)
+    where
+      go : (b : Bool) → cond b (Refused (t .number) (t .place)) (tested-of ts) ≡ Passed → (tested-of ts ≡ Passed → unless (ts ++ us) x ≡ unless us x)
+          → cond b (refused (t .number) (t .place)) (unless (ts ++ us) x) ≡ unless us x
+      go true f r = let z : _≡_ {A = ℕ} 0 1 = cc in absurd (omega arith)
+      go false f r = r f
+
+  -- the first that holds refuses
+  pub refused-unless : (ts us : List Test) (x : A) {k p : ℕ} → tested-of ts ≡ Refused k p → unless (ts ++ us) x ≡ refused k p
+  refused-unless [] us x e = let z : _≡_ {A = ℕ} 0 1 = cc in absurd (omega arith)
+  refused-unless (t ∷ ts) us x {k} {p} e = go (t .holds) e (λ f. refused-unless ts us x f)
+    where
+      go : (b : Bool) → cond b (Refused (t .number) (t .place)) (tested-of ts) ≡ Refused k p → (tested-of ts ≡ Refused k p → unless (ts ++ us) x ≡ refused k p)
+          → cond b (refused (t .number) (t .place)) (unless (ts ++ us) x) ≡ refused k p
+      go true f r = cc
+      go false f r = r f
+
+-- no number among them is 5 or 18, after which scratch is zero
+abbrev pub quiet : List Test → Bool
+quiet [] = true
+quiet (t ∷ ts) = not (eqb (t .number) 5 || eqb (t .number) 18) && quiet ts
+
+pub quiet-number : (ts : List Test) → T (quiet ts) → {k p : ℕ} → tested-of ts ≡ Refused k p → (eqb k 5 || eqb k 18) ≡ false
+quiet-number [] q e = let z : _≡_ {A = ℕ} 0 1 = cc in absurd (omega arith)
+quiet-number (t ∷ ts) q {k} {p} e = go (t .holds) (eqb (t .number) 5 || eqb (t .number) 18) refl q e (λ r f. quiet-number ts r f)
+  where
+    go : (b n : Bool) → (eqb (t .number) 5 || eqb (t .number) 18) ≡ n → T (not n && quiet ts)
+        → cond b (Refused (t .number) (t .place)) (tested-of ts) ≡ Refused k p
+        → (T (quiet ts) → tested-of ts ≡ Refused k p → (eqb k 5 || eqb k 18) ≡ false)
+        → (eqb k 5 || eqb k 18) ≡ false
+    go b true f q g r = absurd q
+    go true false f q g r = let same : t .number ≡ k = cc in ap (λ (m : ℕ). eqb m 5 || eqb m 18) (sym same) ∙ f
+    go false false f q g r = r q g
+
+-- so such a refusal leaves scratch as it was
+pub quiet-scratch : (ts : List Test) → T (quiet ts) → {k p : ℕ} → tested-of ts ≡ Refused k p → (old : List ℕ)
+    → cond (eqb k 5 || eqb k 18) (zeros old) old ≡ old
+quiet-scratch ts q e old = ap (λ (b : Bool). cond b (zeros old) old) (quiet-number ts q e)

@@ -1,0 +1,10 @@
+pub mod Meaning
+pub mod Cuts
+pub mod Digits
+pub mod Lines
+pub mod Writing
+pub mod Placed
+pub mod Naturals
+pub mod Corners
+pub mod Enough
+pub mod Room
