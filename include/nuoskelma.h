@@ -68,6 +68,52 @@ typedef struct {
  */
 nuoskelma_hand_stepped nuoskelma_hand_step(nuoskelma_hand hand);
 
+/* ---- Using a ring. A ring comes as two lists, east and north, and is an envelope exactly if it equals the ring of its own positions. */
+#define NUOSKELMA_HAS_STRONGEST 1
+#define NUOSKELMA_HAS_COVER 1
+#define NUOSKELMA_HAS_TURN_ABOUT 1
+
+typedef struct {
+    uint32_t number;
+    size_t place;
+    int64_t set;
+    size_t at;
+} nuoskelma_strongest_set;
+
+/*
+ * The strongest set on the course (x, y): the greatest x * east + y * north over the corners, and the first ring place that has it.
+ * Refused: 1, the two lists differ in length; 2, over 65,536 corners; 3, a part beyond 1,000,000, with the first place for the ring, then 0 for the course; 9,
+ * not an envelope; 10, an empty ring; 11, the course (0, 0).
+ */
+nuoskelma_strongest_set nuoskelma_strongest(const int32_t *east, size_t east_len, const int32_t *north, size_t north_len, int32_t x, int32_t y);
+
+typedef struct {
+    uint32_t number;
+    size_t place;
+    uint32_t covered;
+} nuoskelma_cover_told;
+
+/*
+ * Covered is 1 exactly if the ring has three corners or more and the stream (x, y) lies strictly inside every edge, and 0 otherwise.
+ * Refused: 1, 2, 3 (the ring, then the stream with place 0) and 9, as for the strongest set.
+ */
+nuoskelma_cover_told nuoskelma_cover(const int32_t *east, size_t east_len, const int32_t *north, size_t north_len, int32_t x, int32_t y);
+
+/* How many corners were written. */
+typedef struct {
+    uint32_t number;
+    size_t place;
+    size_t count;
+} nuoskelma_counted;
+
+/*
+ * The ring turned about: the ring of all its positions with both signs changed, at the front of two output lists, and its count. What lies beyond it in them
+ * stays.
+ * Refused: 1, 2, 3 and 9 as above; 5, an output list is shorter than the ring. A refusal alters nothing.
+ */
+nuoskelma_counted nuoskelma_turn_about(const int32_t *east, size_t east_len, const int32_t *north, size_t north_len, int32_t *out_east,
+    size_t out_east_len, int32_t *out_north, size_t out_north_len);
+
 /* ---- Float door: readings that come as 64-bit floats, in the unit of the parts. */
 #define NUOSKELMA_HAS_PART 1
 #define NUOSKELMA_HAS_READINGS 1

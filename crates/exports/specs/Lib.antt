@@ -1,3 +1,4 @@
 pub mod Picks
 pub mod Hands
 pub mod Doors
+pub mod Rings

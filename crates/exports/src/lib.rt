@@ -3,3 +3,4 @@
 mod doors;
 mod hands;
 mod picks;
+mod rings;

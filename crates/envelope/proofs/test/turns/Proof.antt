@@ -1,0 +1,48 @@
+-- `envelope::test::turns` meets its contract.
+-- Assumes nothing.
+use mathlib.Core.Path.{_≡_, sym, ap, ap₂, _∙_}
+use mathlib.Core.Bool.{Bool, true, _&&_, _||_}
+use lib.IntN.{pos}
+use lib.Signed.{ltZ}
+use borrow.Author.Needs.{needs}
+use Rattle.rules.specs.Streams.{side}
+use Rattle.neighbours.specs.Test.{turns}
+use Rattle.ringside.specs.Meaning.{stream-of}
+use Rattle.ringside.specs.Words.{held}
+use Rattle.envelope.proofs.test.turns.Statement.{statement}
+use Rattle.envelope.proofs.test.turns.Tie as tie
+
+right : (c : tie.Then1) → let a = c .before .before .args in ltZ (side (stream-of (a .a)) (stream-of (a .b)) (stream-of (a .c))) (pos 0) ≡ true
+right c = sym (c .before .strictly-right .ensures) ∙ c .if1 .taken
+
+returns : tie.Need-returns
+unfolding turns
+returns c =
+    let a = c .before .before .before .before .before .before .before .args in
+    let near = c .before .before .before .before .before .before .before .pre in
+    let west = ap₂ ltZ (sym (held (near .0 .east-near) .same)) (sym (held (near .1 .east-near) .same)) ∙ c .if2 .taken in
+    ap₂ (λ (s t : Bool). s && (t || ltZ (a .c .east) (a .b .east))) (sym (right (c .before .before .before .before .before))) (sym west)
+
+returns-2 : tie.Need-returns-2
+unfolding turns
+returns-2 c =
+    let a = c .before .before .before .before .before .before .before .before .before .before .before .args in
+    let near = c .before .before .before .before .before .before .before .before .before .before .before .pre in
+    let not-west =
+    ap₂ ltZ (sym (held (near .0 .east-near) .same)) (sym (held (near .1 .east-near) .same)) ∙ c .before .before .before .before .if2 .left in
+    ap₂ ltZ (held (near .2 .east-near) .same) (held (near .1 .east-near) .same) ∙
+    ap₂
+    (λ (s t : Bool). s && (t || ltZ (a .c .east) (a .b .east)))
+    (sym (right (c .before .before .before .before .before .before .before .before .before)))
+    (sym not-west)
+
+returns-3 : tie.Need-returns-3
+unfolding turns
+returns-3 c =
+    let a = c .before .before .args in
+    ap
+    (λ (s : Bool). s && (ltZ (a .a .east) (a .b .east) || ltZ (a .c .east) (a .b .east)))
+    (sym (c .if1 .left) ∙ c .before .strictly-right .ensures)
+
+pub turns-spec : {M : Type 1} → statement M
+turns-spec = tie.close (tie.spec (λ c κs. search needs) returns returns-2 returns-3)

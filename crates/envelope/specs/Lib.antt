@@ -1,0 +1,6 @@
+pub mod Meaning
+pub mod Walks
+pub mod Firsts
+pub mod Strongest
+pub mod Writes
+pub mod Turns

@@ -1,0 +1,33 @@
+-- What the answers about a ring say in the rules' words.
+-- Assumes nothing.
+use mathlib.Core.Bool.{Bool, true, false}
+use mathlib.Core.List.{List}
+use Prim.Native.Nat.{ℕ}
+use lib.ListN.{length}
+use Rattle.rules.specs.Streams.{Stream}
+use Rattle.rules.specs.Refusals.{Answer, refused, done}
+use Rattle.rules.specs.Entries.{Strongest}
+use Rattle.envelope.specs.declared.strongest.StrongestSet.{StrongestSet}
+use Rattle.envelope.specs.declared.strongest.StrongestSet.the-variants as strongest
+use Rattle.envelope.specs.declared.cover.Covered.{Covered}
+use Rattle.envelope.specs.declared.cover.Covered.the-variants as cover
+use Rattle.envelope.specs.declared.turn.Turned.{Turned}
+use Rattle.envelope.specs.declared.turn.Turned.the-variants as turn
+
+abbrev pub strongest-as : StrongestSet → Answer Strongest
+strongest-as (strongest.Greatest set place) = done (record { set = set; place = place })
+strongest-as (strongest.Refused number place) = refused number place
+
+abbrev pub covered-as : Covered → Answer Bool
+covered-as cover.Yes = done true
+covered-as cover.No = done false
+covered-as (cover.Refused number place) = refused number place
+
+-- turning about answers how many corners it wrote
+abbrev pub turned-as : Turned → Answer ℕ
+turned-as (turn.Corners count) = done count
+turned-as (turn.Refused number place) = refused number place
+
+abbrev pub counted : Answer (List Stream) → Answer ℕ
+counted (done r) = done (length r)
+counted (refused number place) = refused number place

@@ -1,0 +1,155 @@
+-- The parts of a ring turned about: the place of entry, and the parts with their signs changed from there on and round. Assumes nothing.
+use mathlib.Core.Path.{_≡_, refl, sym, ap, ap₂, _∙_, subst, fun-ext}
+use mathlib.Core.Bool.{Bool, true, false}
+use mathlib.Core.List.{List, [], _∷_, _++_, map, map-append, map-map, List·Memᴰ, List·Memᴰ·head}
+use Prim.Native.Nat.{ℕ, zero, suc, _+_, _-_, _≤_, _<_}
+use native.Mathlib.Omega.{arith}
+use lib.IntN.{ℤ, pos, negℤ}
+use lib.Signed.{_≤ℤ_}
+use lib.Dec.{lit≤}
+use lib.ListN.{length, getD, take, drop, length-append, length-map}
+use lib.Seq.{getD-drop}
+use Rattle.whole.specs.Fits.{Within}
+use Rattle.rules.specs.Lists.{written}
+use Rattle.rules.specs.Streams.{Stream, stream, streams, sample, limit, same, turned}
+use Rattle.rules.specs.Chain.{leftmost}
+use Rattle.rules.specs.Ring.{ring}
+use Rattle.rules.specs.Use.{envelope, turn-about}
+use Rattle.rules.specs.Refusals.{Answer, refused, done, output-after}
+use Rattle.rules.specs.Entries.{easts, norths, turn-answer}
+use Rattle.outline.specs.Lists.{two-keys-no, is-first-place, equal-same, no-same}
+use Rattle.rings.specs.Rings.{envelope-ring}
+use Rattle.rings.specs.Cycle.{Entered, enter, from-place, turn-from}
+use Rattle.rings.specs.Lines.{no-samples}
+use Rattle.ringside.specs.Meaning.{Passed}
+use Rattle.ringside.specs.Samples.{streams-length, streams-sample, streams-easts, streams-norths, sample-in}
+use Rattle.envelope.specs.Meaning.{counted}
+use Rattle.envelope.specs.Firsts.{First, first-apart, first-unbeaten, nearer-entry, entry-orders}
+use Rattle.envelope.specs.Writes.{map-drop, map-take}
+
+-- the corners from place r on and round, with both signs changed, are the ring turned about
+pub record Entry (xs : List Stream) (r : ℕ) : Type 0 where
+  pub here : r ≤ length xs
+  pub turns-about : turn-about xs ≡ map turned (from-place r xs)
+
+-- every part of the list within the limit
+pub record AllNear (ps : List ℤ) : Type 0 where
+  pub near : (i : ℕ) → Within (getD ps i (pos 0)) limit
+
+-- the parts with their signs changed, from a place on and round
+abbrev pub turned-from : ℕ → List ℤ → List ℤ
+turned-from k ps = map negℤ (drop k ps ++ take k ps)
+
+-- ---- the place of entry
+
+-- a place that no corner is nearer the entry than, and the first such
+module _ (xs : List Stream) {r : ℕ} (f : First nearer-entry xs (length xs) r) where
+  unbeaten : (s : Stream) → List·Memᴰ s xs → (s .east ≤ℤ sample xs r .east) × (sample xs r .east ≡ s .east → sample xs r .north ≤ℤ s .north)
+  unfolding leftmost
+  unbeaten s m =
+      two-keys-no (sample xs r .east) (s .east) (sample xs r .east) (s .east) (s .north) (sample xs r .north) (first-unbeaten f m)
+
+  not-before : (k : ℕ) → k < r → same (sample xs r) (sample xs k) ≡ false
+  not-before k h = no-same (first-apart entry-orders xs f k h)
+
+  entered : envelope xs ≡ true → Entry xs r
+  entered e = record {
+    here = omega (arith, f .here);
+    turns-about =
+        turn-from xs (sample xs r) e (sample-in xs r (f .here)) (λ s m. unbeaten s m .0) (λ s m h. unbeaten s m .1 (sym h)) ∙
+        ap (λ (k : ℕ). map turned (from-place k xs)) (is-first-place (same (sample xs r)) xs (stream (pos 0) (pos 0)) r (f .here) (equal-same refl) not-before);
+  }
+
+-- one pass from place 1 to the end finds it, also where there are no corners
+pub entered-at : (xs : List Stream) {i r : ℕ} → First nearer-entry xs i r → length xs ≤ i → i - 1 ≤ length xs - 1 → envelope xs ≡ true → Entry xs r
+unfolding turn-about
+entered-at [] {i} {r} f h k e =
+    subst (Entry []) (only i r (f .here) k) (record { here = omega arith; turns-about = no-samples })
+  where
+    only : (i r : ℕ) → r < i → i - 1 ≤ 0 - 1 → 0 ≡ r
+    only i r h k = omega arith
+entered-at (x ∷ xs) {i} {r} f h k e = entered (x ∷ xs) (subst (λ (n : ℕ). First nearer-entry (x ∷ xs) n r) (all i h k) f) e
+  where
+    all : (i : ℕ) → length (x ∷ xs) ≤ i → i - 1 ≤ length (x ∷ xs) - 1 → i ≡ length (x ∷ xs)
+    all i h k = omega arith
+
+-- ---- the parts of the ring turned about
+
+pub parts-near : {es ns : List ℤ} → Passed es ns → AllNear es × AllNear ns
+parts-near {es} {ns} p = (
+  record { near = λ i. subst (λ (s : Stream). Within (s .east) limit) (streams-sample es ns (p .even) i) (p .near i .east-near) },
+  record { near = λ i. subst (λ (s : Stream). Within (s .north) limit) (streams-sample es ns (p .even) i) (p .near i .north-near) },
+)
+
+zero-near : Within (pos 0) limit
+zero-near = record { within = lit≤ tt }
+
+pub near-drop : (k : ℕ) {ps : List ℤ} → AllNear ps → AllNear (drop k ps)
+near-drop k {ps} h = record { near = λ i. subst (λ (z : ℤ). Within z limit) (sym (getD-drop k ps i (pos 0))) (h .near (k + i)) }
+
+pub near-take : (k : ℕ) {ps : List ℤ} → AllNear ps → AllNear (take k ps)
+near-take k {ps} h = record { near = go k ps (h .near) }
+  where
+    go : (k : ℕ) (ps : List ℤ) → ((i : ℕ) → Within (getD ps i (pos 0)) limit) → (i : ℕ) → Within (getD (take k ps) i (pos 0)) limit
+    go zero ps h i = zero-near
+    go (suc k) [] h i = zero-near
+    go (suc k) (p ∷ ps) h zero = h 0
+    go (suc k) (p ∷ ps) h (suc i) = go k ps (λ j. h (suc j)) i
+
+-- one part of each stream, from a place on and round, with the sign changed
+module _ (part : Stream → ℤ) (changed : (s : Stream) → part (turned s) ≡ negℤ (part s)) where
+  turned-parts : (k : ℕ) (xs : List Stream) → map part (map turned (from-place k xs)) ≡ turned-from k (map part xs)
+  turned-parts k xs =
+      map-map part turned (from-place k xs) ∙
+      ap (λ (f : Stream → ℤ). map f (from-place k xs)) (fun-ext changed) ∙
+      sym (map-map negℤ part (from-place k xs)) ∙
+      ap (map negℤ) (map-append part (drop k xs) (take k xs) ∙ ap₂ _++_ (map-drop part k xs) (map-take part k xs))
+
+module _ (es ns : List ℤ) (even : length es ≡ length ns) {r : ℕ} (t : Entry (streams es ns) r) where
+  turned-easts : easts (turn-about (streams es ns)) ≡ turned-from r es
+  turned-easts = ap easts (t .turns-about) ∙ turned-parts (λ s. s .east) (λ s. refl) r (streams es ns) ∙ ap (turned-from r) (streams-easts es ns even)
+
+  turned-norths : norths (turn-about (streams es ns)) ≡ turned-from r ns
+  turned-norths = ap norths (t .turns-about) ∙ turned-parts (λ s. s .north) (λ s. refl) r (streams es ns) ∙ ap (turned-from r) (streams-norths es ns even)
+
+-- an envelope keeps its number of corners
+pub turned-length : (xs : List Stream) → envelope xs ≡ true → length (turn-about xs) ≡ length xs
+unfolding turn-about
+turned-length [] e = ap length no-samples
+turned-length (x ∷ xs) e = go (enter (x ∷ xs) (List·Memᴰ·head refl))
+  where
+    go : (c : Stream) × Entered (x ∷ xs) c → length (ring (map turned (x ∷ xs))) ≡ length (x ∷ xs)
+    go (c, t) =
+        ap length (t .turned-corners) ∙
+        length-map ((c ∷ t .after) ++ t .before) turned ∙
+        swapped ∙
+        ap length (sym (t .corners) ∙ envelope-ring (x ∷ xs) .0 e)
+      where
+        swapped : length ((c ∷ t .after) ++ t .before) ≡ length (t .before ++ (c ∷ t .after))
+        swapped = omega (arith, length-append (c ∷ t .after) (t .before), length-append (t .before) (c ∷ t .after))
+
+-- ---- what turning about answers and leaves in its outputs
+
+module _ (es ns oe on : List ℤ) where
+  abbrev answer : Answer (List Stream)
+  answer = turn-answer es ns oe on
+
+  -- a refusal alters nothing
+  pub turn-refused : {number place : ℕ} → answer ≡ refused number place →
+      (refused number place ≡ counted answer) × ((oe ≡ output-after easts answer oe) × (on ≡ output-after norths answer on))
+  turn-refused e = (
+    ap counted (sym e),
+    (ap (λ (a : Answer (List Stream)). output-after easts a oe) (sym e), ap (λ (a : Answer (List Stream)). output-after norths a on) (sym e)),
+  )
+
+  pub turn-done : (even : length es ≡ length ns) {r : ℕ} → envelope (streams es ns) ≡ true → Entry (streams es ns) r →
+      answer ≡ done (turn-about (streams es ns)) →
+      (done (length es) ≡ counted answer) ×
+      ((written (turned-from r es) oe ≡ output-after easts answer oe) × (written (turned-from r ns) on ≡ output-after norths answer on))
+  turn-done even {r} v t e = (
+    sym (ap counted e ∙ ap done (turned-length (streams es ns) v ∙ streams-length es ns even)),
+    (
+      sym (ap (λ (a : Answer (List Stream)). output-after easts a oe) e ∙ ap (λ (l : List ℤ). written l oe) (turned-easts es ns even t)),
+      sym (ap (λ (a : Answer (List Stream)). output-after norths a on) e ∙ ap (λ (l : List ℤ). written l on) (turned-norths es ns even t)),
+    ),
+  )

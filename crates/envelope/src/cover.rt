@@ -1,0 +1,74 @@
+// The cover test: the ring has three corners or more and the stream lies strictly inside every edge.
+
+use crate::test::is_envelope;
+ghost use mathlib.Core.Path.{_≡_};
+ghost use Prim.Native.Nat.{_<_};
+ghost use lib.ListN.{length};
+ghost use Rattle.rules.specs.Streams.{streams};
+ghost use Rattle.rules.specs.Entries.{cover-answer};
+ghost use Rattle.ringside.specs.Meaning.{stream-of, Near, Passed};
+ghost use Rattle.envelope.specs.Meaning.{covered-as};
+ghost use Rattle.envelope.specs.Walks.{inside-from};
+use ringside::MOST;
+use ringside::Stream;
+use ringside::at;
+use ringside::beyond;
+use ringside::first_beyond;
+use ringside::strictly_right;
+
+pub enum Covered {
+    Yes,
+    No,
+    Refused { number: u32, place: usize },
+}
+
+// The stream lies strictly inside every edge, from place 0 on and back.
+fn inside(east: &[i32], north: &[i32], s: Stream) -> bool
+    requires { ⌜ Passed (now east) (now north) × Near (stream-of s) × (0 < length (now east)) ⌝ }
+    ensures { λ r. ⌜ r ≡ inside-from (streams (now (east .entry)) (now (north .entry))) (stream-of s) 1 ⌝ }
+{
+    let n = east.len();
+    let mut i = 1;
+    while i < n {
+        if !strictly_right(at(east, north, i - 1), at(east, north, i), s) {
+            return false;
+        }
+        i += 1;
+    }
+    strictly_right(at(east, north, n - 1), at(east, north, 0), s)
+}
+
+fn refused(number: u32, place: usize) -> Covered
+    ensures { λ r. ⌜ r ≡ Covered.Refused number place ⌝ }
+{
+    Covered::Refused { number, place }
+}
+
+pub fn cover(east: &[i32], north: &[i32], x: i32, y: i32) -> Covered
+    ensures { λ r. ⌜ covered-as r ≡ cover-answer (now (east .entry)) (now (north .entry)) x y ⌝ }
+{
+    if east.len() != north.len() {
+        return refused(1, 0);
+    }
+    if MOST < east.len() {
+        return refused(2, 0);
+    }
+    let place = first_beyond(east, north);
+    if place < east.len() {
+        return refused(3, place);
+    }
+    let s = Stream { east: x, north: y };
+    if beyond(s) {
+        return refused(3, 0);
+    }
+    if !is_envelope(east, north) {
+        return refused(9, 0);
+    }
+    if east.len() < 3 {
+        return Covered::No;
+    }
+    if inside(east, north, s) {
+        return Covered::Yes;
+    }
+    Covered::No
+}

@@ -1,0 +1,90 @@
+// The strongest set on a course: the greatest x * east + y * north over a ring's corners, and the first place that has it.
+
+use crate::test::is_envelope;
+ghost use mathlib.Core.Path.{_≡_};
+ghost use mathlib.Core.Bool.{_&&_};
+ghost use Prim.Native.Nat.{_<_};
+ghost use lib.IntN.{pos};
+ghost use lib.ListN.{length};
+ghost use Rattle.rules.specs.Streams.{streams, eqZ};
+ghost use Rattle.rules.specs.Entries.{strongest-answer};
+ghost use Rattle.ringside.specs.Meaning.{stream-of, Near, Passed};
+ghost use Rattle.envelope.specs.Meaning.{strongest-as};
+ghost use Rattle.envelope.specs.Firsts.{First, stronger};
+use ringside::MOST;
+use ringside::Stream;
+use ringside::at;
+use ringside::beyond;
+use ringside::first_beyond;
+use ringside::set_on;
+
+pub enum StrongestSet {
+    Greatest { set: i64, place: usize },
+    Refused { number: u32, place: usize },
+}
+
+// The first place that no corner beats.
+fn strongest_place(east: &[i32], north: &[i32], course: Stream) -> usize
+    requires { ⌜ Passed (now east) (now north) × Near (stream-of course) × (0 < length (now east)) ⌝ }
+    ensures { λ r. ⌜ First (stronger (course .east) (course .north)) (streams (now (east .entry)) (now (north .entry))) (length (now (east .entry))) r ⌝ }
+{
+    let mut best = 0;
+    let mut i = 1;
+    while i < east.len() {
+        if set_on(course, at(east, north, best)) < set_on(course, at(east, north, i)) {
+            best = i;
+        }
+        i += 1;
+    }
+    best
+}
+
+// The course (0, 0).
+fn nowhere(course: Stream) -> bool
+    requires { ⌜ Near (stream-of course) ⌝ }
+    ensures { λ r. ⌜ r ≡ (eqZ (course .east) (pos 0) && eqZ (course .north) (pos 0)) ⌝ }
+{
+    if course.east == 0 {
+        return course.north == 0;
+    }
+    false
+}
+
+fn refused(number: u32, place: usize) -> StrongestSet
+    ensures { λ r. ⌜ r ≡ StrongestSet.Refused number place ⌝ }
+{
+    StrongestSet::Refused { number, place }
+}
+
+pub fn strongest(east: &[i32], north: &[i32], x: i32, y: i32) -> StrongestSet
+    ensures { λ r. ⌜ strongest-as r ≡ strongest-answer (now (east .entry)) (now (north .entry)) x y ⌝ }
+{
+    if east.len() != north.len() {
+        return refused(1, 0);
+    }
+    if MOST < east.len() {
+        return refused(2, 0);
+    }
+    let place = first_beyond(east, north);
+    if place < east.len() {
+        return refused(3, place);
+    }
+    let course = Stream { east: x, north: y };
+    if beyond(course) {
+        return refused(3, 0);
+    }
+    if !is_envelope(east, north) {
+        return refused(9, 0);
+    }
+    if east.len() == 0 {
+        return refused(10, 0);
+    }
+    if nowhere(course) {
+        return refused(11, 0);
+    }
+    let best = strongest_place(east, north, course);
+    StrongestSet::Greatest {
+        set: set_on(course, at(east, north, best)),
+        place: best,
+    }
+}

@@ -1,0 +1,83 @@
+// Is a ring an envelope: one pass over its corners, each looked at with the two before it.
+
+ghost use mathlib.Core.Path.{_≡_};
+ghost use Prim.Native.Nat.{_≤_};
+ghost use lib.ListN.{length};
+ghost use Rattle.rules.specs.Streams.{streams};
+ghost use Rattle.rules.specs.Use.{envelope};
+ghost use Rattle.neighbours.specs.Test.{turns, closes};
+ghost use Rattle.ringside.specs.Meaning.{stream-of, Near, Passed};
+ghost use Rattle.envelope.specs.Walks.{round-from};
+use ringside::Stream;
+use ringside::at;
+use ringside::leftmost;
+use ringside::strictly_right;
+
+// At b, come to from a, the ring turns strictly right to c; and from a side that does not go east only to one that goes west.
+fn turns(a: Stream, b: Stream, c: Stream) -> bool
+    requires { ⌜ Near (stream-of a) × Near (stream-of b) × Near (stream-of c) ⌝ }
+    ensures { λ r. ⌜ r ≡ turns (stream-of a) (stream-of b) (stream-of c) ⌝ }
+{
+    if strictly_right(a, b, c) {
+        if a.east < b.east {
+            return true;
+        }
+        return c.east < b.east;
+    }
+    false
+}
+
+// At the last corner b, come to from a, the ring turns strictly right to its first corner, and goes there west or straight up.
+fn closes(a: Stream, b: Stream, first: Stream) -> bool
+    requires { ⌜ Near (stream-of a) × Near (stream-of b) × Near (stream-of first) ⌝ }
+    ensures { λ r. ⌜ r ≡ closes (stream-of a) (stream-of b) (stream-of first) ⌝ }
+{
+    if strictly_right(a, b, first) {
+        return first.east <= b.east;
+    }
+    false
+}
+
+// From place 0 to place 1, over all corners and back to place 0.
+fn goes_round(east: &[i32], north: &[i32]) -> bool
+    requires { ⌜ Passed (now east) (now north) × (2 ≤ length (now east)) ⌝ }
+    ensures { λ r. ⌜ r ≡ round-from (streams (now (east .entry)) (now (north .entry))) 2 ⌝ }
+{
+    let n = east.len();
+    let mut i = 2;
+    while i < n {
+        if !turns(
+            at(east, north, i - 2),
+            at(east, north, i - 1),
+            at(east, north, i),
+        ) {
+            return false;
+        }
+        i += 1;
+    }
+    closes(
+        at(east, north, n - 2),
+        at(east, north, n - 1),
+        at(east, north, 0),
+    )
+}
+
+// The ring equals the ring of its own positions.
+pub fn is_envelope(east: &[i32], north: &[i32]) -> bool
+    requires { ⌜ Passed (now east) (now north) ⌝ }
+    ensures { λ r. ⌜ r ≡ envelope (streams (now (east .entry)) (now (north .entry))) ⌝ }
+{
+    let n = east.len();
+    if n < 2 {
+        return true;
+    }
+    let first = at(east, north, 0);
+    let second = at(east, north, 1);
+    if n == 2 {
+        return leftmost(first, second);
+    }
+    if first.east < second.east {
+        return goes_round(east, north);
+    }
+    false
+}

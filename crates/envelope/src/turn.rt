@@ -1,0 +1,105 @@
+// Turning about: the ring of all positions with both signs changed. It is the same cycle of corners, entered at the corner with the greatest east
+// and, among those, the least north.
+
+use crate::test::is_envelope;
+ghost use mathlib.Core.Path.{_≡_};
+ghost use mathlib.Core.Bool.{true};
+ghost use mathlib.Core.List.{map};
+ghost use Prim.Native.Nat.{_≤_};
+ghost use lib.IntN.{negℤ};
+ghost use lib.ListN.{length};
+ghost use Rattle.rules.specs.Lists.{written};
+ghost use Rattle.rules.specs.Streams.{streams};
+ghost use Rattle.rules.specs.Use.{envelope};
+ghost use Rattle.rules.specs.Refusals.{output-after};
+ghost use Rattle.rules.specs.Entries.{turn-answer, easts, norths};
+ghost use Rattle.envelope.specs.Meaning.{turned-as, counted};
+ghost use Rattle.envelope.specs.Turns.{Entry, AllNear, turned-from};
+use ringside::MOST;
+use ringside::at;
+use ringside::first_beyond;
+use ringside::leftmost;
+
+pub enum Turned {
+    Corners(usize),
+    Refused { number: u32, place: usize },
+}
+
+// The first place of the corner with the greatest east and, among those, the least north.
+fn entry(east: &[i32], north: &[i32]) -> usize
+    requires { ⌜ (length (now east) ≡ length (now north)) × (envelope (streams (now east) (now north)) ≡ true) ⌝ }
+    ensures { λ r. ⌜ Entry (streams (now (east .entry)) (now (north .entry))) r ⌝ }
+{
+    let mut best = 0;
+    let mut i = 1;
+    while i < east.len() {
+        if leftmost(at(east, north, best), at(east, north, i)) {
+            best = i;
+        }
+        i += 1;
+    }
+    best
+}
+
+// The parts with the sign changed, at the front of out.
+fn negate(parts: &[i32], out: &mut [i32])
+    requires { ⌜ AllNear (now parts) × (length (now parts) ≤ length (now out)) ⌝ }
+    ensures { λ r. ⌜ now (out .exit) ≡ written (map negℤ (now (parts .entry))) (now (out .entry)) ⌝ }
+{
+    let mut i = 0;
+    while i < parts.len() {
+        out[i] = -parts[i];
+        i += 1;
+    }
+}
+
+// The parts with the sign changed, from a place on and round, at the front of out.
+fn negate_from(parts: &[i32], start: usize, out: &mut [i32])
+    requires { ⌜ AllNear (now parts) × (start ≤ length (now parts)) × (length (now parts) ≤ length (now out)) ⌝ }
+    ensures { λ r. ⌜ now (out .exit) ≡ written (turned-from start (now (parts .entry))) (now (out .entry)) ⌝ }
+{
+    let rest = parts.len() - start;
+    negate(&parts[start..], out);
+    negate(&parts[..start], &mut out[rest..]);
+}
+
+fn refused(number: u32, place: usize) -> Turned
+    ensures { λ r. ⌜ r ≡ Turned.Refused number place ⌝ }
+{
+    Turned::Refused { number, place }
+}
+
+pub fn turn_about(
+    east: &[i32],
+    north: &[i32],
+    out_east: &mut [i32],
+    out_north: &mut [i32],
+) -> Turned
+    ensures answer { λ r. ⌜ turned-as r ≡ counted (turn-answer (now (east .entry)) (now (north .entry)) (now («out_east» .entry)) (now («out_north» .entry))) ⌝ }
+    ensures easts { λ r. ⌜ now («out_east» .exit) ≡ output-after easts (turn-answer (now (east .entry)) (now (north .entry)) (now («out_east» .entry)) (now («out_north» .entry))) (now («out_east» .entry)) ⌝ }
+    ensures norths { λ r. ⌜ now («out_north» .exit) ≡ output-after norths (turn-answer (now (east .entry)) (now (north .entry)) (now («out_east» .entry)) (now («out_north» .entry))) (now («out_north» .entry)) ⌝ }
+{
+    if east.len() != north.len() {
+        return refused(1, 0);
+    }
+    if MOST < east.len() {
+        return refused(2, 0);
+    }
+    let place = first_beyond(east, north);
+    if place < east.len() {
+        return refused(3, place);
+    }
+    if !is_envelope(east, north) {
+        return refused(9, 0);
+    }
+    if out_east.len() < east.len() {
+        return refused(5, 0);
+    }
+    if out_north.len() < east.len() {
+        return refused(5, 0);
+    }
+    let start = entry(east, north);
+    negate_from(east, start, out_east);
+    negate_from(north, start, out_north);
+    Turned::Corners(east.len())
+}

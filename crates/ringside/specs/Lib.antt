@@ -1,0 +1,4 @@
+pub mod Meaning
+pub mod Samples
+pub mod Tests
+pub mod Words
