@@ -33,6 +33,45 @@ typedef struct {
  */
 nuoskelma_picked nuoskelma_pick(const int32_t *numbers, size_t numbers_len, size_t rank, uint32_t *scratch, size_t scratch_len);
 
+/* ---- A round of the bridge finder, and the bridge over a. Samples come as two lists, one east, one north; a sample's number is its place from 0. */
+#define NUOSKELMA_HAS_ROUND 1
+#define NUOSKELMA_HAS_BRIDGE 1
+
+/* Kind 1: the bridge, left and right. Kind 2: a kept list of so many numbers. Kind 0: refused. */
+typedef struct {
+    uint32_t number;
+    size_t place;
+    uint32_t kind;
+    uint32_t left;
+    uint32_t right;
+    size_t kept;
+} nuoskelma_round_said;
+
+/*
+ * A round at a over a list of sample numbers, repeats allowed: the bridge, left first, each end the earliest in the list at its position; or the kept numbers,
+ * in list order, at the front of the output, whose rest stays. Scratch has at least 16 words for each list item and 64 more; all of it is zero afterwards.
+ * Refused: 1, the two lists of parts differ in length; 2, over 65,536 samples or list items; 3, a part beyond 1,000,000, at its first place; 7, a listed number
+ * not below the sample count, at its first list place; 4, scratch too short; 6, no listed sample has east at most a, or none has east above it; 5, the
+ * output is shorter than the kept list, and all the scratch is zero.
+ */
+nuoskelma_round_said nuoskelma_round(const int32_t *east, size_t east_len, const int32_t *north, size_t north_len, const uint32_t *list, size_t list_len,
+    int32_t a, uint32_t *output, size_t output_len, uint32_t *scratch, size_t scratch_len);
+
+typedef struct {
+    uint32_t number;
+    size_t place;
+    uint32_t left;
+    uint32_t right;
+} nuoskelma_bridged;
+
+/*
+ * The bridge over a: the upper chain's edge with left east at most a and right east above a, its ends by the lowest sample number at their position. Scratch has
+ * at least 16 words for each sample and 64 more; all of it is zero afterwards.
+ * Refused: 1, 2, 3, 4 and 6 as for a round, over all samples.
+ */
+nuoskelma_bridged nuoskelma_bridge(const int32_t *east, size_t east_len, const int32_t *north, size_t north_len, int32_t a, uint32_t *scratch,
+    size_t scratch_len);
+
 /* ---- Ring hand: goes round the corners of a ring, edge by edge. */
 #define NUOSKELMA_HAS_HAND 1
 
@@ -67,6 +106,64 @@ typedef struct {
  * Refused: 2, the hand's count is over 65,536; 10, its place is not below its count. A refused step hands back the hand as it came.
  */
 nuoskelma_hand_stepped nuoskelma_hand_step(nuoskelma_hand hand);
+
+/* ---- Using a ring. A ring comes as two lists, east and north, and is an envelope exactly if it equals the ring of its own positions. */
+#define NUOSKELMA_HAS_STRONGEST 1
+#define NUOSKELMA_HAS_COVER 1
+#define NUOSKELMA_HAS_TURN_ABOUT 1
+
+typedef struct {
+    uint32_t number;
+    size_t place;
+    int64_t set;
+    size_t at;
+} nuoskelma_strongest_set;
+
+/*
+ * The strongest set on the course (x, y): the greatest x * east + y * north over the corners, and the first ring place that has it.
+ * Refused: 1, the two lists differ in length; 2, over 65,536 corners; 3, a part beyond 1,000,000, with the first place for the ring, then 0 for the course; 9,
+ * not an envelope; 10, an empty ring; 11, the course (0, 0).
+ */
+nuoskelma_strongest_set nuoskelma_strongest(const int32_t *east, size_t east_len, const int32_t *north, size_t north_len, int32_t x, int32_t y);
+
+typedef struct {
+    uint32_t number;
+    size_t place;
+    uint32_t covered;
+} nuoskelma_cover_told;
+
+/*
+ * Covered is 1 exactly if the ring has three corners or more and the stream (x, y) lies strictly inside every edge, and 0 otherwise.
+ * Refused: 1, 2, 3 (the ring, then the stream with place 0) and 9, as for the strongest set.
+ */
+nuoskelma_cover_told nuoskelma_cover(const int32_t *east, size_t east_len, const int32_t *north, size_t north_len, int32_t x, int32_t y);
+
+/* How many corners were written. */
+typedef struct {
+    uint32_t number;
+    size_t place;
+    size_t count;
+} nuoskelma_counted;
+
+/*
+ * The ring turned about: the ring of all its positions with both signs changed, at the front of two output lists, and its count. What lies beyond it in them
+ * stays.
+ * Refused: 1, 2, 3 and 9 as above; 5, an output list is shorter than the ring. A refusal alters nothing.
+ */
+nuoskelma_counted nuoskelma_turn_about(const int32_t *east, size_t east_len, const int32_t *north, size_t north_len, int32_t *out_east,
+    size_t out_east_len, int32_t *out_north, size_t out_north_len);
+
+#define NUOSKELMA_HAS_JOIN 1
+
+/*
+ * The ring of both rings' positions, at the front of two output lists, and its count. What lies beyond it in them stays. Scratch has at least 16 words for
+ * each corner of both rings and 64 more; all of it is zero afterwards.
+ * Refused: the first ring's 1, 2, 3 and 9, then the second's; 2, over 65,536 corners together; 4, scratch too short; 5, an output list is shorter than the
+ * result, and all the scratch is zero.
+ */
+nuoskelma_counted nuoskelma_join(const int32_t *east, size_t east_len, const int32_t *north, size_t north_len, const int32_t *east2, size_t east2_len,
+    const int32_t *north2, size_t north2_len, int32_t *out_east, size_t out_east_len, int32_t *out_north, size_t out_north_len, uint32_t *scratch,
+    size_t scratch_len);
 
 /* ---- Float door: readings that come as 64-bit floats, in the unit of the parts. */
 #define NUOSKELMA_HAS_PART 1

@@ -1,3 +1,6 @@
 pub mod Picks
 pub mod Hands
 pub mod Doors
+pub mod Rings
+pub mod Rounds
+pub mod Bridges

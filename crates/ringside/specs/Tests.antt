@@ -1,16 +1,15 @@
 -- Tests in their order: one before others, and those of a ring that comes as two lists, 1, 2 and 3. Assumes nothing.
-use mathlib.Core.Path.{_≡_, refl, sym, ap, ap₂, _∙_, subst}
-use mathlib.Core.Bool.{Bool, true, false, not, cond}
-use mathlib.Core.List.{List, [], _∷_, _++_}
+use mathlib.Core.Path.{_≡_, _∙_}
+use mathlib.Core.Bool.{true, false}
+use mathlib.Core.List.{List, _∷_, _++_}
 use Prim.Native.Nat.{ℕ, _≤_, _<_}
 use native.Mathlib.Omega.{arith}
 use lib.IntN.{ℤ}
-use lib.Dec.{ltb}
 use lib.ListN.{length}
 use borrow.Author.Tests.{lt-ltb, le-ltb, eq-eqb, ne-eqb}
 use Rattle.rules.specs.Lists.{some-of, first-place}
-use Rattle.rules.specs.Streams.{Stream, streams, most, beyond}
-use Rattle.rules.specs.Refusals.{Answer, refused, done, Test, unless, ring-tests}
+use Rattle.rules.specs.Streams.{streams, most, beyond}
+use Rattle.rules.specs.Refusals.{refused, Test, unless, ring-tests}
 use Rattle.ringside.specs.Meaning.{Passed}
 use Rattle.ringside.specs.Samples.{streams-length, some-of-place, sample-near}
 

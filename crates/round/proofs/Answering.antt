@@ -18,7 +18,8 @@ use Rattle.rules.specs.Refusals.{Answer, refused, done, unless, output-short, o
 use Rattle.rules.specs.Entries.{kept-list, round-answer}
 use Rattle.samples.specs.Positions.{at, Sampled, Listed}
 use Rattle.samples.specs.Samples.{sampled, listed, samples-at, spans-two}
-use Rattle.samples.specs.Tests.{tested-of, passed-tests, passed-unless, refused-unless, quiet-scratch}
+use Rattle.samples.specs.Tests.{tested-of, then-answer, passed-tests, answer-after, quiet-scratch}
+use Rattle.samples.specs.declared.tests.Tested.{Tested}
 use Rattle.samples.specs.declared.tests.Tested.the-variants as tests
 use Rattle.round.specs.declared.RoundAnswer.{RoundAnswer}
 use Rattle.round.specs.declared.RoundAnswer.the-variants as answer
@@ -88,7 +89,7 @@ module _ (es ns : List ℤ) (list : List ℕ) (a : ℤ) (output scratch : List �
   unfolding round-answer
   refused-promise {k} {p} e =
       let ts = round-tests es ns list a (length scratch) in
-      let r = refused-unless ts (output-short (ltb (length output) (length (kept-list said-here))) ∷ []) said-here e in
+      let r = answer-after ts (output-short (ltb (length output) (length (kept-list said-here))) ∷ []) said-here ∙ ap (λ (x : Tested). then-answer x (answer-of said-here output)) e in
       record {
         answer = sym (ap telling r);
         output-is = sym (ap (λ (x : Answer (rules.Said ℕ)). output-after kept-list x output) r);
@@ -102,7 +103,7 @@ module _ (es ns : List ℤ) (list : List ℕ) (a : ℤ) (output scratch : List �
   unfolding round-answer
   passed-promise e s w long is h =
       let ts = round-tests es ns list a (length scratch) in
-      let r = passed-unless ts (output-short (ltb (length output) (length (kept-list said-here))) ∷ []) said-here e in
+      let r = answer-after ts (output-short (ltb (length output) (length (kept-list said-here))) ∷ []) said-here ∙ ap (λ (x : Tested). then-answer x (answer-of said-here output)) e in
       let same = ap (λ (x : rules.Said ℕ). answer-of x output) is ∙ sym r in
       record {
         answer = h .answer ∙ ap telling same;

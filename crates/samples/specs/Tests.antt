@@ -49,26 +49,34 @@ passed-tests (t ∷ ts) e = go (t .holds) refl e (λ f. passed-tests ts f)
     go true p f r = let z : _≡_ {A = ℕ} 0 1 = cc in absurd (omega arith)
     go false p f r = (p, r f)
 
-module _ {A : Type 0} where
-  -- passed tests leave what comes after them
-  pub passed-unless : (ts us : List Test) (x : A) → tested-of ts ≡ Passed → unless (ts ++ us) x ≡ unless us x
-  passed-unless [] us x e = refl
-  passed-unless (t ∷ ts) us x e = go (t .holds) e (λ f. passed-unless ts us x f)
-    where
-      go : (b : Bool) → cond b (Refused (t .number) (t .place)) (tested-of ts) ≡ Passed → (tested-of ts ≡ Passed → unless (ts ++ us) x ≡ unless us x)
-          → cond b (refused (t .number) (t .place)) (unless (ts ++ us) x) ≡ unless us x
-      go true f r = let z : _≡_ {A = ℕ} 0 1 = cc in absurd (omega arith)
-      go false f r = r f
+-- ---- tests after others
 
-  -- the first that holds refuses
-  pub refused-unless : (ts us : List Test) (x : A) {k p : ℕ} → tested-of ts ≡ Refused k p → unless (ts ++ us) x ≡ refused k p
-  refused-unless [] us x e = let z : _≡_ {A = ℕ} 0 1 = cc in absurd (omega arith)
-  refused-unless (t ∷ ts) us x {k} {p} e = go (t .holds) e (λ f. refused-unless ts us x f)
-    where
-      go : (b : Bool) → cond b (Refused (t .number) (t .place)) (tested-of ts) ≡ Refused k p → (tested-of ts ≡ Refused k p → unless (ts ++ us) x ≡ refused k p)
-          → cond b (refused (t .number) (t .place)) (unless (ts ++ us) x) ≡ refused k p
-      go true f r = cc
-      go false f r = r f
+-- what comes after passed tests; a refusal stays
+abbrev pub then-tested : Tested → Tested → Tested
+then-tested Passed u = u
+then-tested (Refused k p) u = Refused k p
+
+abbrev pub then-answer : {A : Type 0} → Tested → Answer A → Answer A
+then-answer Passed x = x
+then-answer (Refused k p) x = refused k p
+
+pub tested-after : (ts us : List Test) → tested-of (ts ++ us) ≡ then-tested (tested-of ts) (tested-of us)
+tested-after [] us = refl
+tested-after (t ∷ ts) us = go (t .holds) (tested-after ts us)
+  where
+    go : (b : Bool) → tested-of (ts ++ us) ≡ then-tested (tested-of ts) (tested-of us)
+        → cond b (Refused (t .number) (t .place)) (tested-of (ts ++ us)) ≡ then-tested (cond b (Refused (t .number) (t .place)) (tested-of ts)) (tested-of us)
+    go true e = refl
+    go false e = e
+
+pub answer-after : {A : Type 0} (ts us : List Test) (x : A) → unless (ts ++ us) x ≡ then-answer (tested-of ts) (unless us x)
+answer-after [] us x = refl
+answer-after (t ∷ ts) us x = go (t .holds) (answer-after ts us x)
+  where
+    go : (b : Bool) → unless (ts ++ us) x ≡ then-answer (tested-of ts) (unless us x)
+        → cond b (refused (t .number) (t .place)) (unless (ts ++ us) x) ≡ then-answer (cond b (Refused (t .number) (t .place)) (tested-of ts)) (unless us x)
+    go true e = refl
+    go false e = e
 
 -- no number among them is 5 or 18, after which scratch is zero
 abbrev pub quiet : List Test → Bool

@@ -1,6 +1,6 @@
 -- `ringside::at` meets its contract: the two parts that are read are those of the sample.
 -- Assumes nothing.
-use mathlib.Core.Path.{_≡_, sym, ap₂, _∙_}
+use mathlib.Core.Path.{sym, ap₂, _∙_}
 use borrow.Author.Needs.{needs}
 use mir.Syntax.{w32}
 use mir.Facts.{toZ-ofZ}
@@ -10,8 +10,6 @@ use Rattle.rules.specs.Streams.{stream}
 use Rattle.ringside.specs.Samples.{streams-sample}
 use Rattle.ringside.proofs.at.Statement.{statement}
 use Rattle.ringside.proofs.at.Tie as tie
-use Rattle.ringside.proofs.at.Reads as reads
-use Rattle.ringside.proofs.at.Lts as lts
 
 returns : tie.Need-returns
 returns c =

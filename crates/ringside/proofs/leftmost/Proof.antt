@@ -1,7 +1,7 @@
 -- `ringside::leftmost` meets its contract.
 -- Assumes nothing.
 use mathlib.Core.Path.{_≡_, sym, ap, ap₂, _∙_}
-use mathlib.Core.Bool.{Bool, true, false, _&&_, _||_}
+use mathlib.Core.Bool.{Bool, false, _&&_, _||_}
 use lib.Signed.{ltZ}
 use mir.Syntax.{w32}
 use mir.Val.{toZ, ofZ}

@@ -1,21 +1,17 @@
 -- `envelope::cover::cover` meets its contract: each return is the rules' tests in the order in which the code makes them.
 -- Assumes nothing.
-use mathlib.Core.Path.{_≡_, refl, sym, ap, ap₂, _∙_}
-use mathlib.Core.Bool.{Bool, true, false, not, cond, _&&_}
+use mathlib.Core.Path.{_≡_, sym, ap, ap₂, _∙_}
+use mathlib.Core.Bool.{not}
 use mathlib.Core.List.{List, [], _∷_}
-use Prim.Native.Nat.{_<_}
 use native.Mathlib.Omega.{arith}
 use lib.IntN.{ℤ}
-use lib.Dec.{leb}
-use lib.ListN.{length}
 use mir.Facts.{toZ-ofZ}
 use borrow.Author.Needs.{needs}
-use borrow.Author.Tests.{not-true, not-false, lt-leb, le-leb}
 use Rattle.rules.specs.Streams.{Stream, stream, streams, beyond}
-use Rattle.rules.specs.Use.{envelope, covers}
-use Rattle.rules.specs.Refusals.{Answer, done, Test, unless, single-beyond, not-envelope}
+use Rattle.rules.specs.Use.{covers}
+use Rattle.rules.specs.Refusals.{done, Test, unless, single-beyond, not-envelope}
 use Rattle.rules.specs.Entries.{cover-answer}
-use Rattle.ringside.specs.Meaning.{stream-of, Near, Passed}
+use Rattle.ringside.specs.Meaning.{Passed}
 use Rattle.ringside.specs.Samples.{streams-length, not-beyond-near}
 use Rattle.ringside.specs.Tests.{refuses, passes, passed, refused-1, refused-2, refused-3, none-refused}
 use Rattle.envelope.specs.Meaning.{covered-as}

@@ -1,7 +1,7 @@
 -- `envelope::strongest::strongest` meets its contract: each return is the rules' tests in the order in which the code makes them.
 -- Assumes nothing.
 use mathlib.Core.Path.{_≡_, sym, ap, ap₂, _∙_, subst}
-use mathlib.Core.Bool.{Bool, not, _&&_}
+use mathlib.Core.Bool.{not, _&&_}
 use mathlib.Core.List.{List, [], _∷_}
 use Prim.Native.Nat.{ℕ}
 use native.Mathlib.Omega.{arith}
@@ -13,11 +13,11 @@ use mir.Val.{toZ, ofZ}
 use mir.Facts.{toZ-ofZ}
 use borrow.Author.Needs.{needs}
 use borrow.Author.Tests.{eq-eqb, ne-eqb}
-use Rattle.rules.specs.Streams.{Stream, stream, streams, sample, beyond, eqZ}
+use Rattle.rules.specs.Streams.{stream, streams, beyond, eqZ}
 use Rattle.rules.specs.Use.{set-on}
-use Rattle.rules.specs.Refusals.{Answer, done, Test, test, unless, single-beyond, not-envelope}
+use Rattle.rules.specs.Refusals.{done, Test, test, unless, single-beyond, not-envelope}
 use Rattle.rules.specs.Entries.{Strongest, strongest-of, strongest-answer}
-use Rattle.ringside.specs.Meaning.{stream-of, Near, Passed}
+use Rattle.ringside.specs.Meaning.{Near, Passed}
 use Rattle.ringside.specs.Samples.{streams-length, not-beyond-near, read-near}
 use Rattle.ringside.specs.Tests.{refuses, passes, passed, refused-1, refused-2, refused-3, none-refused}
 use Rattle.envelope.specs.Meaning.{strongest-as}

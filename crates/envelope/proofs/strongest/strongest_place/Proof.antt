@@ -4,7 +4,6 @@ use mathlib.Core.Path.{_≡_, sym, ap, ap₂, _∙_, subst}
 use mathlib.Core.Logic.{⊎-elim}
 use Prim.Native.Nat.{ℕ, _+_, _-_, _≤_}
 use native.Mathlib.Omega.{arith}
-use lib.IntN.{pos}
 use lib.Signed.{ltZ}
 use lib.ListN.{length}
 use mir.Syntax.{w64}
@@ -12,14 +11,10 @@ use mir.Val.{toZ, ofZ}
 use mir.Facts.{toZ-ofZ}
 use Rattle.rules.specs.Streams.{streams, sample}
 use Rattle.rules.specs.Use.{set-on}
-use Rattle.ringside.specs.Samples.{streams-length, read-near}
+use Rattle.ringside.specs.Samples.{read-near}
 use Rattle.envelope.specs.Firsts.{First, stronger, stronger-orders, first-one, first-taken, first-left}
 use Rattle.envelope.proofs.strongest.strongest_place.Statement.{statement}
 use Rattle.envelope.proofs.strongest.strongest_place.Tie as tie
-use Rattle.envelope.proofs.strongest.strongest_place.Reads as reads
-use Rattle.envelope.proofs.strongest.strongest_place.Lts as lts
-use Rattle.ringside.proofs.at.Reads as at-reads
-use Rattle.ringside.proofs.set_on.Reads as set-on-reads
 
 abbrev Inv-loop : tie.InvT-loop
 Inv-loop east north course best₀ i₀ best i =

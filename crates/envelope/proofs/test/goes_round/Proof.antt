@@ -1,6 +1,6 @@
 -- `envelope::test::goes_round` meets its contract. The loop's invariant: the test of neighbours is what is left of it from place i on.
 -- The measure is what is left of the ring. Assumes nothing.
-use mathlib.Core.Path.{_≡_, refl, sym, ap, ap₂, _∙_}
+use mathlib.Core.Path.{_≡_, refl, sym, ap, _∙_}
 use mathlib.Core.Bool.{Bool, _&&_}
 use Prim.Native.Nat.{_-_, _≤_, _+_}
 use native.Mathlib.Omega.{arith}
@@ -12,11 +12,6 @@ use Rattle.ringside.specs.Samples.{streams-length, read-near}
 use Rattle.envelope.specs.Walks.{round-from, round-more, round-end}
 use Rattle.envelope.proofs.test.goes_round.Statement.{statement}
 use Rattle.envelope.proofs.test.goes_round.Tie as tie
-use Rattle.envelope.proofs.test.goes_round.Reads as reads
-use Rattle.envelope.proofs.test.goes_round.Lts as lts
-use Rattle.envelope.proofs.test.closes.Reads as closes-reads
-use Rattle.envelope.proofs.test.turns.Reads as turns-reads
-use Rattle.ringside.proofs.at.Reads as at-reads
 
 abbrev Inv-loop : tie.InvT-loop
 Inv-loop east north n i₀ i =

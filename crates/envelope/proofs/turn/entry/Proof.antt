@@ -12,10 +12,6 @@ use Rattle.envelope.specs.Firsts.{First, nearer-entry, entry-orders, fir
 use Rattle.envelope.specs.Turns.{entered-at}
 use Rattle.envelope.proofs.turn.entry.Statement.{statement}
 use Rattle.envelope.proofs.turn.entry.Tie as tie
-use Rattle.envelope.proofs.turn.entry.Reads as reads
-use Rattle.envelope.proofs.turn.entry.Lts as lts
-use Rattle.ringside.proofs.at.Reads as at-reads
-use Rattle.ringside.proofs.leftmost.Reads as leftmost-reads
 
 abbrev Inv-loop : tie.InvT-loop
 Inv-loop east north best₀ i₀ best i = (1 ≤ i) × (i - 1 ≤ length east - 1) × First nearer-entry (streams east north) i best

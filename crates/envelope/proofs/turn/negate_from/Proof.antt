@@ -1,6 +1,6 @@
 -- `envelope::turn::negate_from` meets its contract: the parts from the place on are written first, and those before it behind them.
 -- Assumes nothing.
-use mathlib.Core.Path.{_≡_, sym, ap, ap₂, _∙_}
+use mathlib.Core.Path.{_≡_, sym, ap, _∙_}
 use mathlib.Core.List.{List, map, _++_, map-append}
 use Prim.Native.Nat.{_-_}
 use native.Mathlib.Omega.{arith}

@@ -1,7 +1,7 @@
 -- `envelope::turn::turn_about` meets its contract: each return is the rules' tests in the order in which the code makes them, and the outputs hold the
 -- parts of the ring turned about, from the place of entry on. Assumes nothing.
-use mathlib.Core.Path.{_≡_, refl, sym, ap, ap₂, _∙_}
-use mathlib.Core.Bool.{Bool, true, false, not, _||_}
+use mathlib.Core.Path.{_≡_, sym, ap, ap₂, _∙_}
+use mathlib.Core.Bool.{Bool, true, not, _||_}
 use mathlib.Core.List.{List, [], _∷_}
 use native.Mathlib.Omega.{arith}
 use lib.IntN.{ℤ}
@@ -11,7 +11,7 @@ use borrow.Author.Needs.{needs}
 use borrow.Author.Tests.{lt-ltb, le-ltb, not-false}
 use Rattle.rules.specs.Streams.{Stream, streams}
 use Rattle.rules.specs.Use.{envelope, turn-about}
-use Rattle.rules.specs.Refusals.{Answer, Test, unless, not-envelope}
+use Rattle.rules.specs.Refusals.{Test, unless, not-envelope}
 use Rattle.rules.specs.Entries.{ring-short, turn-answer}
 use Rattle.ringside.specs.Meaning.{Passed}
 use Rattle.ringside.specs.Samples.{streams-length}

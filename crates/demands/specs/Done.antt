@@ -1,0 +1,29 @@
+-- What an entry that is done says: none of its tests held, and the answer is what it was to be. Assumes nothing.
+use mathlib.Core.Path.{_≡_, refl, ap}
+use mathlib.Core.Bool.{Bool, true, false, cond}
+use mathlib.Core.List.{List, [], _∷_}
+use Prim.Native.Nat.{ℕ}
+use native.Mathlib.Omega.{arith}
+use Rattle.rules.specs.Streams.{Stream, streams}
+use Rattle.rules.specs.Refusals.{refused, done, Test, unless}
+use Rattle.rules.specs.Entries.{easts, norths}
+
+-- none of the tests holds
+abbrev pub NoneHolds : List Test → Type 0
+NoneHolds [] = Unit {0}
+NoneHolds (t ∷ ts) = (t .holds ≡ false) × NoneHolds ts
+
+pub when-done : {A : Type 0} (ts : List Test) (x : A) {y : A} → unless ts x ≡ done y → NoneHolds ts × (x ≡ y)
+when-done [] x e = (tt, cc)
+when-done (t ∷ ts) x {y} e = go (t .holds) refl e (λ h. when-done ts x h)
+  where
+    go : (b : Bool) → t .holds ≡ b → cond b (refused (t .number) (t .place)) (unless ts x) ≡ done y →
+        (unless ts x ≡ done y → NoneHolds ts × (x ≡ y)) → NoneHolds (t ∷ ts) × (x ≡ y)
+    go true h e rest = absurd (let z : _≡_ {A = ℕ} 0 1 = cc in omega arith)
+    go false h e rest = let r = rest e in ((h, r .0), r .1)
+
+-- a ring is its parts again
+pub streams-parts : (r : List Stream) → streams (easts r) (norths r) ≡ r
+unfolding streams
+streams-parts [] = refl
+streams-parts (p ∷ r) = ap (λ (l : List Stream). p ∷ l) (streams-parts r)

@@ -1,0 +1,4 @@
+pub mod Done
+pub mod Turned
+pub mod Strongest
+pub mod Covered

@@ -1,0 +1,45 @@
+-- What the C face of the uses of a ring gives for each answer of the rules: number 0 and the values, or the refusal's number and place.
+-- Assumes nothing.
+use mathlib.Core.Path.{_≡_, refl}
+use mathlib.Core.Bool.{Bool, true, false}
+use mathlib.Core.List.{List}
+use Prim.Native.Nat.{ℕ}
+use lib.IntN.{ℤ, pos}
+use lib.ListN.{length}
+use Rattle.rules.specs.Streams.{Stream}
+use Rattle.rules.specs.Refusals.{Answer, refused, done}
+use Rattle.rules.specs.Entries.{Strongest, easts, norths}
+use Rattle.envelope.specs.Meaning.{counted}
+use Rattle.exports.specs.declared.rings.StrongestC.{StrongestC}
+use Rattle.exports.specs.declared.rings.CoverTold.{CoverTold}
+use Rattle.exports.specs.declared.rings.Counted.{Counted}
+
+abbrev pub strongest-face : Answer Strongest → StrongestC
+strongest-face (done s) = record { number = 0; place = 0; set = s .set; at = s .place }
+strongest-face (refused number place) = record { number = number; place = place; set = pos 0; at = 0 }
+
+abbrev pub cover-face : Answer Bool → CoverTold
+cover-face (done true) = record { number = 0; place = 0; covered = 1 }
+cover-face (done false) = record { number = 0; place = 0; covered = 0 }
+cover-face (refused number place) = record { number = number; place = place; covered = 0 }
+
+-- the count of the corners written
+abbrev pub counted-face : Answer (List Stream) → Counted
+counted-face (done r) = record { number = 0; place = 0; count = length r }
+counted-face (refused number place) = record { number = number; place = place; count = 0 }
+
+-- the same, from the count that an entry answers
+abbrev pub count-face : Answer ℕ → Counted
+count-face (done n) = record { number = 0; place = 0; count = n }
+count-face (refused number place) = record { number = number; place = place; count = 0 }
+
+pub counted-is : (a : Answer (List Stream)) → count-face (counted a) ≡ counted-face a
+counted-is (done r) = refl
+counted-is (refused number place) = refl
+
+-- the parts of a ring's corners, as they are written to the two output lists
+abbrev pub parts-east : List Stream → List ℤ
+parts-east r = easts r
+
+abbrev pub parts-north : List Stream → List ℤ
+parts-north r = norths r

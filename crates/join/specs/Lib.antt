@@ -1,0 +1,5 @@
+pub mod Both
+pub mod Meaning
+pub mod Ring
+pub mod Verdict
+pub mod Written

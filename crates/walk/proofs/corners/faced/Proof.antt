@@ -1,0 +1,26 @@
+-- `walk::corners::faced` meets its contract: the north of a near stream can be negated.
+-- Assumes nothing.
+use mathlib.Core.Path.{refl, ap₂, _∙_}
+use lib.IntN.{pos}
+use mir.Syntax.{w32}
+use mir.Facts.{toZ-ofZ}
+use Rattle.whole.specs.Solver.{var, ⊝_}
+use Rattle.whole.specs.Fits.{[]ʷ, _∷ʷ_, step-fits, word-is}
+use Rattle.rules.specs.Streams.{stream}
+use Rattle.ringside.specs.Words.{near-fits}
+use Rattle.walk.proofs.corners.faced.Statement.{statement}
+use Rattle.walk.proofs.corners.faced.Tie as tie
+
+returns : tie.Need-returns
+returns c = rw (c .if1 .taken) refl
+
+sub-t4 : tie.Need-sub-t4
+sub-t4 c = step-fits w32 (c .before .before .before .pre .north-near ∷ʷ []ʷ) (⊝ var 0) tt
+
+returns-2 : tie.Need-returns-2
+returns-2 c = rw (c .before .before .before .if1 .left)
+    (ap₂ stream (toZ-ofZ (near-fits (c .before .before .before .before .pre .east-near)))
+    (word-is w32 (c .before .before .before .before .pre .north-near ∷ʷ []ʷ) (⊝ var 0) tt))
+
+pub faced-spec : {M : Type 1} → statement M
+faced-spec = tie.close (tie.spec returns sub-t4 returns-2)

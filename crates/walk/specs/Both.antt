@@ -1,0 +1,149 @@
+-- Two rings: their corners at one run of places, the second ring's after the first's, as they are or mirrored; and what the parts of the code
+-- say to each other. Assumes nothing.
+use mathlib.Core.Path.{_≡_}
+use mathlib.Core.Logic.{_⊎_}
+use mathlib.Core.Bool.{Bool, true, false, cond}
+use mathlib.Core.List.{List, _++_}
+use Prim.Native.Nat.{ℕ, suc, _+_, _-_, _≤_, _<_}
+use lib.IntN.{ℤ, negℤ}
+use lib.Signed.{_≤ℤ_}
+use lib.ListN.{length, getD}
+use Rattle.rules.specs.Streams.{Stream, stream, streams, sample, most}
+use Rattle.rules.specs.Chain.{UpperChain}
+use Rattle.outline.specs.Under.{Under}
+use Rattle.ringside.specs.Meaning.{Near}
+use Rattle.stack.specs.Places.{listed}
+use Rattle.stack.specs.Stack.{With, Before, Upto, Stacked, stays}
+use Rattle.stack.specs.Hills.{Hill}
+use Rattle.stack.specs.Walk.{Range, Left, Draws, Westmost, Comes, All, Walk}
+
+-- ---- the corners
+
+abbrev pub both : List ℤ → List ℤ → List ℤ → List ℤ → List Stream
+both es ns fs ms = streams es ns ++ streams fs ms
+
+abbrev pub count : List ℤ → List ℤ → ℕ
+count es fs = length es + length fs
+
+-- as it is, for the upper chain, or mirrored, for the lower
+abbrev pub facing : Bool → Stream → Stream
+facing up s = stream (s .east) (cond up (s .north) (negℤ (s .north)))
+
+-- two rings that passed their tests: level lists, every part within the limit, and easts that go up and then down
+pub record Rings (es ns fs ms : List ℤ) : Type 0 where
+  pub even : length es ≡ length ns
+  pub even2 : length fs ≡ length ms
+  pub few : count es fs ≤ most
+  pub near : (k : ℕ) → Near (sample (both es ns fs ms) k)
+  pub hill : Hill (λ k. sample (both es ns fs ms) k .east) 0 (length es)
+  pub hill2 : Hill (λ k. sample (both es ns fs ms) k .east) (length es) (count es fs)
+
+module _ (es ns fs ms : List ℤ) where
+  abbrev pub east-at : ℕ → ℤ
+  east-at k = sample (both es ns fs ms) k .east
+
+  abbrev pub corner-at : Bool → ℕ → Stream
+  corner-at up k = facing up (sample (both es ns fs ms) k)
+
+  -- the corner whose place stands at i in a list of places
+  abbrev pub listed-at : Bool → List ℕ → ℕ → Stream
+  listed-at up w i = corner-at up (getD w i 0)
+
+-- ---- what is left of both rings
+
+-- an end of the places lo to hi
+abbrev pub End : ℕ → ℕ → ℕ → Type 0
+End lo hi k = (k ≡ lo) ⊎ (suc k ≡ hi)
+
+module _ (es ns fs ms : List ℤ) where
+  -- places lo to hi that are a hill, and not none
+  pub record Span (lo hi : ℕ) : Type 0 where
+    pub some : lo < hi
+    pub inside : hi ≤ count es fs
+    pub hill : Hill (east-at es ns fs ms) lo hi
+
+  -- the westmost of them
+  pub record WestEnd (lo hi k : ℕ) : Type 0 where
+    pub end : End lo hi k
+    pub below : k < hi
+    pub west : Westmost (east-at es ns fs ms) (Range lo hi) k
+
+  -- places a to b of the first ring and c to d of the second, not none of both
+  pub record Spans (a b c d : ℕ) : Type 0 where
+    pub span : a ≤ b
+    pub gap : b ≤ c
+    pub span2 : c ≤ d
+    pub inside : d ≤ count es fs
+    pub some : 0 < b - a + (d - c)
+    pub hill : Hill (east-at es ns fs ms) a b
+    pub hill2 : Hill (east-at es ns fs ms) c d
+
+  -- the westmost of both is drawn
+  pub record Drawn (a b c d k a' b' c' d' : ℕ) : Type 0 where
+    pub draws : Draws a b c d k a' b' c' d'
+    pub west : Westmost (east-at es ns fs ms) (Left a b c d) k
+
+-- an end of the first ring's places, or of the second's
+pub record AtFirst (k a b c d : ℕ) : Type 0 where
+  pub some : a < b
+  pub gap : b ≤ c
+  pub rest : c ≤ d
+  pub end : End a b k
+
+pub record AtSecond (k a b c d : ℕ) : Type 0 where
+  pub rest : a ≤ b
+  pub gap : b ≤ c
+  pub some : c < d
+  pub end : End c d k
+
+-- ---- a stack of corners: the places of t of them at the front of a list
+
+pub record Stand (n : ℕ) (w : List ℕ) (t : ℕ) : Type 0 where
+  pub room : t ≤ length w
+  pub below : (i : ℕ) → i < t → getD w i 0 < n
+
+-- the stream s comes to the stack f of t corners, from the west: it is further east than each or straight above it
+pub record Coming (f : ℕ → Stream) (t : ℕ) (s : Stream) : Type 0 where
+  pub stacked : Stacked f t
+  pub before : (i : ℕ) → i < t → Before (f i) s
+
+-- r of them stay
+pub record Settled (f : ℕ → Stream) (t : ℕ) (s : Stream) (r : ℕ) : Type 0 where
+  pub fewer : r ≤ t
+  pub stay : stays f r s ≡ true
+  pub under : (i : ℕ) → i < t → Under (With (Upto f r) s) (f i)
+
+-- the corner s comes to the stack f of t corners, and is no further west than any
+pub record Next (f : ℕ → Stream) (t : ℕ) (s : Stream) : Type 0 where
+  pub stacked : Stacked f t
+  pub west : (i : ℕ) → i < t → f i .east ≤ℤ s .east
+
+-- the topmost corner hides s: s is at its east and not above it. If not, s is further east than each corner or straight above it
+pub record Hides (f : ℕ → Stream) (t : ℕ) (s : Stream) (r : Bool) : Type 0 where
+  pub hidden : r ≡ true → (0 < t) × (s .east ≡ f (t - 1) .east) × (s .north ≤ℤ f (t - 1) .north)
+  pub passes : r ≡ false → (i : ℕ) → i < t → Before (f i) s
+
+module _ (es ns fs ms : List ℤ) (up : Bool) where
+  -- the corner at place k came to the stack of t corners at the front of w, which leaves r at the front of w'
+  pub record Taken (w : List ℕ) (t k : ℕ) (w' : List ℕ) (r : ℕ) : Type 0 where
+    pub comes : Comes (listed-at es ns fs ms up w) t (corner-at es ns fs ms up k) (listed-at es ns fs ms up w') r
+    pub stand : Stand (count es fs) w' r
+    pub more : r ≤ suc t
+
+  -- i corners were drawn, a to b and c to d are left, and top corners are on the stack
+  pub record Walking (w : List ℕ) (a b c d top i : ℕ) : Type 0 where
+    pub span : a ≤ b
+    pub high : b ≤ length es
+    pub low2 : length es ≤ c
+    pub span2 : c ≤ d
+    pub high2 : d ≤ count es fs
+    pub left : i + (b - a + (d - c)) ≡ count es fs
+    pub few : top ≤ i
+    pub stand : Stand (count es fs) w top
+    pub walk : Walk (corner-at es ns fs ms up) (count es fs) (Left a b c d) (listed-at es ns fs ms up w) top
+
+  -- the chain of all corners, r of them at the front of w
+  pub record Chained (w : List ℕ) (r : ℕ) : Type 0 where
+    pub chain : UpperChain (All (corner-at es ns fs ms up) (count es fs)) (listed (listed-at es ns fs ms up w) r)
+    pub stand : Stand (count es fs) w r
+    pub few : r ≤ count es fs

@@ -1,0 +1,4 @@
+pub mod Both
+pub mod Places
+pub mod Stacks
+pub mod Words

@@ -1,0 +1,91 @@
+// The corners of both rings at one run of places, the second ring's after the first's, and how two corners lie to each other.
+
+ghost use mathlib.Core.Path.{_≡_};
+ghost use Prim.Native.Nat.{ℕ, _+_, _<_};
+ghost use lib.Signed.{ltZ};
+ghost use lib.ListN.{length, getD};
+ghost use Rattle.rules.specs.Streams.{sample, same};
+ghost use Rattle.ringside.specs.Meaning.{stream-of, Near};
+ghost use Rattle.walk.specs.Both.{Rings, both, count, facing, corner-at, listed-at};
+use ringside::Stream;
+use ringside::at;
+
+// p is further west than q.
+pub fn west(p: Stream, q: Stream) -> bool
+    ensures { λ r. ⌜ r ≡ ltZ (p .east) (q .east) ⌝ }
+{
+    p.east < q.east
+}
+
+// p is further south than q.
+pub fn south(p: Stream, q: Stream) -> bool
+    ensures { λ r. ⌜ r ≡ ltZ (p .north) (q .north) ⌝ }
+{
+    p.north < q.north
+}
+
+// p and q stand at one position.
+pub fn same(p: Stream, q: Stream) -> bool
+    ensures { λ r. ⌜ r ≡ same (stream-of p) (stream-of q) ⌝ }
+{
+    if p.east == q.east {
+        return p.north == q.north;
+    }
+    false
+}
+
+// The stream as it is, or mirrored.
+fn faced(up: bool, s: Stream) -> Stream
+    requires { ⌜ Near (stream-of s) ⌝ }
+    ensures { λ r. ⌜ stream-of r ≡ facing up (stream-of s) ⌝ }
+{
+    if up {
+        return s;
+    }
+    Stream {
+        east: s.east,
+        north: -s.north,
+    }
+}
+
+// The corner at place k of both rings.
+fn corner(east: &[i32], north: &[i32], east2: &[i32], north2: &[i32], k: usize) -> Stream
+    requires { ⌜ Rings (now east) (now north) (now east2) (now north2) × (k < count (now east) (now east2)) ⌝ }
+    ensures { λ r. ⌜ stream-of r ≡ sample (both (now (east .entry)) (now (north .entry)) (now (east2 .entry)) (now (north2 .entry))) k ⌝ }
+{
+    if k < east.len() {
+        return at(east, north, k);
+    }
+    at(east2, north2, k - east.len())
+}
+
+// The same, as it is or mirrored.
+pub fn seen(
+    east: &[i32],
+    north: &[i32],
+    east2: &[i32],
+    north2: &[i32],
+    up: bool,
+    k: usize,
+) -> Stream
+    requires { ⌜ Rings (now east) (now north) (now east2) (now north2) × (k < count (now east) (now east2)) ⌝ }
+    ensures { λ r. ⌜ stream-of r ≡ corner-at (now (east .entry)) (now (north .entry)) (now (east2 .entry)) (now (north2 .entry)) up k ⌝ }
+{
+    faced(up, corner(east, north, east2, north2, k))
+}
+
+// The corner whose place stands at i in a list of places.
+pub fn listed(
+    east: &[i32],
+    north: &[i32],
+    east2: &[i32],
+    north2: &[i32],
+    up: bool,
+    w: &[u32],
+    i: usize,
+) -> Stream
+    requires { ⌜ Rings (now east) (now north) (now east2) (now north2) × (i < length (now w)) × (getD (now w) i 0 < count (now east) (now east2)) ⌝ }
+    ensures { λ r. ⌜ stream-of r ≡ listed-at (now (east .entry)) (now (north .entry)) (now (east2 .entry)) (now (north2 .entry)) up (now (w .entry)) i ⌝ }
+{
+    seen(east, north, east2, north2, up, w[i] as usize)
+}
