@@ -197,6 +197,18 @@ typedef struct {
 nuoskelma_readings_taken nuoskelma_readings(const double *east, size_t east_len, const double *north, size_t north_len, int32_t *out_east,
     size_t out_east_len, int32_t *out_north, size_t out_north_len);
 
+/* ---- Record. Byte 0 is the version, 1; bytes 1 to 4 are the length in bytes of the rest, big-endian; then 4 bytes east and 4 bytes north for each corner. */
+#define NUOSKELMA_HAS_RECORD 1
+
+/*
+ * The corners of a record at the front of two output lists, and their count. What lies beyond them in the lists stays. Length 0 is the empty ring.
+ * Refused: 17, no bytes; 16, a version that is not 1; 17, under 5 bytes, or a length that is no multiple of 8 or not that of the bytes that follow; 2, over
+ * 65,536 corners; 3, a part beyond 1,000,000, at the first corner that has one; 9, not an envelope; 5, an output list is shorter than the corners. A refusal
+ * alters nothing.
+ */
+nuoskelma_counted nuoskelma_record(const uint8_t *bytes, size_t bytes_len, int32_t *out_east, size_t out_east_len, int32_t *out_north,
+    size_t out_north_len);
+
 #ifdef __cplusplus
 }
 #endif

@@ -39,7 +39,8 @@ corners c = streams (now (c .given .0)) (now (c .given .1 .0))
 abbrev pub asked : Call → Stream
 asked c = stream (c .given .1 .1 .0) (c .given .1 .1 .1 .0)
 
-says : (es ns : List ℤ) (x y : ℤ) → cover-answer es ns x y ≡ done true → (envelope (streams es ns) ≡ true) × (covers (streams es ns) (stream x y) ≡ true)
+says : (es ns : List ℤ) (x y : ℤ) → cover-answer es ns x y ≡ done true →
+    (envelope (streams es ns) ≡ true) × (covers (streams es ns) (stream x y) ≡ true)
 unfolding cover-answer
 says es ns x y e =
     let w = when-done

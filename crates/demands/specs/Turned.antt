@@ -1,5 +1,5 @@
--- Turning about, over the promise of the entry: turned about twice, wherever neither step is refused, a ring is itself. A call is any that the entry's
--- own promise allows. Assumes nothing.
+-- Turning about, over the promise of the entry: turned about twice, wherever neither step is refused, a ring is itself. A call is any that the
+-- entry's own promise allows. Assumes nothing.
 use mathlib.Core.Path.{_≡_, refl, sym, ap, ap₂, _∙_}
 use mathlib.Core.Bool.{true}
 use mathlib.Core.List.{List, [], _∷_, _++_}
@@ -73,7 +73,7 @@ front result old n e = take-at result (drop (length result) old) n e
 
 pub turning-done : (c : Turning) {n : ℕ} → c .answer ≡ turn.Corners n → Turned-about c n
 unfolding turn-answer
-turning-done c {n} e = go (counted-done (turn-answer es ns oe on) (sym (ap turned-as e) ∙ c .promised .0))
+turning-done c {n} e = go (counted-done (turn-answer es ns oe on) (sym (ap turned-as e) ∙ c .promised .answer))
   where
     es : List ℤ
     es = east c
@@ -100,10 +100,10 @@ turning-done c {n} e = go (counted-done (turn-answer es ns oe on) (sym (ap turne
           ring-given = not-false _ (says .0 .1 .1 .1 .0);
           count = sym many;
           easts-left =
-              ap (take n) (c .promised .1 .0 ∙ ap (λ (t : Answer (List Stream)). output-after easts t oe) answered) ∙
+              ap (take n) (c .promised .east-after ∙ ap (λ (t : Answer (List Stream)). output-after easts t oe) answered) ∙
               front (easts r) oe n (length-map r (λ s. s .east) ∙ many);
           norths-left =
-              ap (take n) (c .promised .1 .1 ∙ ap (λ (t : Answer (List Stream)). output-after norths t on) answered) ∙
+              ap (take n) (c .promised .north-after ∙ ap (λ (t : Answer (List Stream)). output-after norths t on) answered) ∙
               front (norths r) on n (length-map r (λ s. s .north) ∙ many);
         }
 

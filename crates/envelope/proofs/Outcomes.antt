@@ -1,5 +1,5 @@
--- No two outcomes satisfy a promise about a ring: two results of which the contract holds, for the same arguments, are one, and so is the final content
--- of everything lent. Assumes nothing.
+-- No two outcomes satisfy a promise about a ring: two results of which the contract holds, for the same arguments, are one, and so is the final
+-- content of everything lent. Assumes nothing.
 use mathlib.Core.Path.{_≡_, refl, sym, _∙_}
 use mathlib.Core.Bool.{Bool, true, false}
 use mathlib.Mathlib.Logic.Function.Defs.{LeftInverse·injective}
@@ -57,16 +57,21 @@ turned-back (turn.Refused number place) = refl
 
 -- ---- the promises
 
-pub strongest-one : (κs : Lfts 2) (a : Dens κs strongest-kinds.ps) (r r' : StrongestSet) (s s' : AtExit (endedOf 2 strongest-kinds.ps strongest-kinds.r) κs) →
+pub strongest-one : (κs : Lfts 2) (a : Dens κs strongest-kinds.ps) (r r' : StrongestSet)
+    (s s' : AtExit (endedOf 2 strongest-kinds.ps strongest-kinds.r) κs) →
     strongest-reads.Post κs a r s → strongest-reads.Post κs a r' s' → r ≡ r'
 strongest-one κs a r r' s s' p q = LeftInverse·injective strongest-from strongest-as strongest-back r r' (p ∙ sym q)
 
-pub cover-one : (κs : Lfts 2) (a : Dens κs cover-kinds.ps) (r r' : Covered) (s s' : AtExit (endedOf 2 cover-kinds.ps cover-kinds.r) κs) →
+pub cover-one : (κs : Lfts 2) (a : Dens κs cover-kinds.ps) (r r' : Covered)
+    (s s' : AtExit (endedOf 2 cover-kinds.ps cover-kinds.r) κs) →
     cover-reads.Post κs a r s → cover-reads.Post κs a r' s' → r ≡ r'
 cover-one κs a r r' s s' p q = LeftInverse·injective covered-from covered-as covered-back r r' (p ∙ sym q)
 
-pub turn-about-one : (κs : Lfts 4) (a : Dens κs turn-kinds.ps) (r r' : Turned) (s s' : AtExit (endedOf 4 turn-kinds.ps turn-kinds.r) κs) →
+pub turn-about-one : (κs : Lfts 4) (a : Dens κs turn-kinds.ps) (r r' : Turned)
+    (s s' : AtExit (endedOf 4 turn-kinds.ps turn-kinds.r) κs) →
     turn-reads.Post κs a r s → turn-reads.Post κs a r' s' →
     (r ≡ r') × ((now (s .1 .1 .0) ≡ now (s' .1 .1 .0)) × (now (s .1 .1 .1 .0) ≡ now (s' .1 .1 .1 .0)))
-turn-about-one κs a r r' s s' p q =
-    (LeftInverse·injective turned-from turned-as turned-back r r' (p .0 ∙ sym (q .0)), (p .1 .0 ∙ sym (q .1 .0), p .1 .1 ∙ sym (q .1 .1)))
+turn-about-one κs a r r' s s' p q = (
+  LeftInverse·injective turned-from turned-as turned-back r r' (p .answer ∙ sym (q .answer)),
+  (p .east-after ∙ sym (q .east-after), p .north-after ∙ sym (q .north-after)),
+)

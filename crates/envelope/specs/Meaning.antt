@@ -1,12 +1,14 @@
 -- What the answers about a ring say in the rules' words.
 -- Assumes nothing.
+use mathlib.Core.Path.{_≡_}
 use mathlib.Core.Bool.{Bool, true, false}
 use mathlib.Core.List.{List}
 use Prim.Native.Nat.{ℕ}
+use lib.IntN.{ℤ}
 use lib.ListN.{length}
 use Rattle.rules.specs.Streams.{Stream}
-use Rattle.rules.specs.Refusals.{Answer, refused, done}
-use Rattle.rules.specs.Entries.{Strongest}
+use Rattle.rules.specs.Refusals.{Answer, refused, done, output-after}
+use Rattle.rules.specs.Entries.{Strongest, easts, norths, turn-answer}
 use Rattle.envelope.specs.declared.strongest.StrongestSet.{StrongestSet}
 use Rattle.envelope.specs.declared.strongest.StrongestSet.the-variants as strongest
 use Rattle.envelope.specs.declared.cover.Covered.{Covered}
@@ -31,3 +33,9 @@ turned-as (turn.Refused number place) = refused number place
 abbrev pub counted : Answer (List Stream) → Answer ℕ
 counted (done r) = done (length r)
 counted (refused number place) = refused number place
+
+-- the promise of turning about: the answer, and both outputs, before and after
+pub record TurnPromise (es ns oe on : List ℤ) (r : Turned) (oe' on' : List ℤ) : Type 0 where
+  pub answer : turned-as r ≡ counted (turn-answer es ns oe on)
+  pub east-after : oe' ≡ output-after easts (turn-answer es ns oe on) oe
+  pub north-after : on' ≡ output-after norths (turn-answer es ns oe on) on

@@ -29,7 +29,10 @@ module _ (x y : ℤ) where
       value : strongest x y p ps ≡ set-on x y (sample (p ∷ ps) r)
       value = strongest-only x y p ps (sample-in (p ∷ ps) r (f .here)) at-most
 
+      weaker : (k : ℕ) → k < r → set-on x y (sample (p ∷ ps) k) <ℤ set-on x y (sample (p ∷ ps) r)
+      weaker k h = test-lt (set-on x y (sample (p ∷ ps) k)) (set-on x y (sample (p ∷ ps) r)) (f .before k h)
+
       place : strongest-place x y p ps ≡ r
       place =
           strongest-place-only x y p ps r (f .here) (sym value)
-          (λ k h. subst (λ (z : ℤ). set-on x y (sample (p ∷ ps) k) <ℤ z) (sym value) (test-lt (set-on x y (sample (p ∷ ps) k)) (set-on x y (sample (p ∷ ps) r)) (f .before k h)))
+          (λ k h. subst (λ (z : ℤ). set-on x y (sample (p ∷ ps) k) <ℤ z) (sym value) (weaker k h))

@@ -10,7 +10,7 @@ use lib.Dec.{lit≤}
 use lib.ListN.{length, getD, take, drop, length-append, length-map}
 use lib.Seq.{getD-drop}
 use Rattle.whole.specs.Fits.{Within}
-use Rattle.rules.specs.Lists.{written}
+use Rattle.rules.specs.Lists.{first-place, written}
 use Rattle.rules.specs.Streams.{Stream, stream, streams, sample, limit, same, turned}
 use Rattle.rules.specs.Chain.{leftmost}
 use Rattle.rules.specs.Ring.{ring}
@@ -23,7 +23,8 @@ use Rattle.rings.specs.Cycle.{Entered, enter, from-place, turn-from}
 use Rattle.rings.specs.Lines.{no-samples}
 use Rattle.ringside.specs.Meaning.{Passed}
 use Rattle.ringside.specs.Samples.{streams-length, streams-sample, streams-easts, streams-norths, sample-in}
-use Rattle.envelope.specs.Meaning.{counted}
+use Rattle.envelope.specs.declared.turn.Turned.{Turned}
+use Rattle.envelope.specs.Meaning.{turned-as, counted, TurnPromise}
 use Rattle.envelope.specs.Firsts.{First, first-apart, first-unbeaten, nearer-entry, entry-orders}
 use Rattle.envelope.specs.Writes.{map-drop, map-take}
 
@@ -52,12 +53,15 @@ module _ (xs : List Stream) {r : ℕ} (f : First nearer-entry xs (length xs) r) 
   not-before : (k : ℕ) → k < r → same (sample xs r) (sample xs k) ≡ false
   not-before k h = no-same (first-apart entry-orders xs f k h)
 
+  first : first-place (same (sample xs r)) xs ≡ r
+  first = is-first-place (same (sample xs r)) xs (stream (pos 0) (pos 0)) r (f .here) (equal-same refl) not-before
+
   entered : envelope xs ≡ true → Entry xs r
   entered e = record {
     here = omega (arith, f .here);
     turns-about =
         turn-from xs (sample xs r) e (sample-in xs r (f .here)) (λ s m. unbeaten s m .0) (λ s m h. unbeaten s m .1 (sym h)) ∙
-        ap (λ (k : ℕ). map turned (from-place k xs)) (is-first-place (same (sample xs r)) xs (stream (pos 0) (pos 0)) r (f .here) (equal-same refl) not-before);
+        ap (λ (k : ℕ). map turned (from-place k xs)) first;
   }
 
 -- one pass from place 1 to the end finds it, also where there are no corners
@@ -107,10 +111,12 @@ module _ (part : Stream → ℤ) (changed : (s : Stream) → part (turned s) ≡
 
 module _ (es ns : List ℤ) (even : length es ≡ length ns) {r : ℕ} (t : Entry (streams es ns) r) where
   turned-easts : easts (turn-about (streams es ns)) ≡ turned-from r es
-  turned-easts = ap easts (t .turns-about) ∙ turned-parts (λ s. s .east) (λ s. refl) r (streams es ns) ∙ ap (turned-from r) (streams-easts es ns even)
+  turned-easts =
+      ap easts (t .turns-about) ∙ turned-parts (λ s. s .east) (λ s. refl) r (streams es ns) ∙ ap (turned-from r) (streams-easts es ns even)
 
   turned-norths : norths (turn-about (streams es ns)) ≡ turned-from r ns
-  turned-norths = ap norths (t .turns-about) ∙ turned-parts (λ s. s .north) (λ s. refl) r (streams es ns) ∙ ap (turned-from r) (streams-norths es ns even)
+  turned-norths =
+      ap norths (t .turns-about) ∙ turned-parts (λ s. s .north) (λ s. refl) r (streams es ns) ∙ ap (turned-from r) (streams-norths es ns even)
 
 -- an envelope keeps its number of corners
 pub turned-length : (xs : List Stream) → envelope xs ≡ true → length (turn-about xs) ≡ length xs
@@ -131,25 +137,27 @@ turned-length (x ∷ xs) e = go (enter (x ∷ xs) (List·Memᴰ·head refl))
 -- ---- what turning about answers and leaves in its outputs
 
 module _ (es ns oe on : List ℤ) where
-  abbrev answer : Answer (List Stream)
-  answer = turn-answer es ns oe on
-
   -- a refusal alters nothing
-  pub turn-refused : {number place : ℕ} → answer ≡ refused number place →
-      (refused number place ≡ counted answer) × ((oe ≡ output-after easts answer oe) × (on ≡ output-after norths answer on))
-  turn-refused e = (
-    ap counted (sym e),
-    (ap (λ (a : Answer (List Stream)). output-after easts a oe) (sym e), ap (λ (a : Answer (List Stream)). output-after norths a on) (sym e)),
-  )
+  pub turn-refused : {r : Turned} {number place : ℕ} → turned-as r ≡ refused number place → turn-answer es ns oe on ≡ refused number place →
+      TurnPromise es ns oe on r oe on
+  turn-refused h e =
+      record {
+        answer = h ∙ ap counted (sym e);
+        east-after = ap (λ (a : Answer (List Stream)). output-after easts a oe) (sym e);
+        north-after = ap (λ (a : Answer (List Stream)). output-after norths a on) (sym e);
+      }
 
-  pub turn-done : (even : length es ≡ length ns) {r : ℕ} → envelope (streams es ns) ≡ true → Entry (streams es ns) r →
-      answer ≡ done (turn-about (streams es ns)) →
-      (done (length es) ≡ counted answer) ×
-      ((written (turned-from r es) oe ≡ output-after easts answer oe) × (written (turned-from r ns) on ≡ output-after norths answer on))
-  turn-done even {r} v t e = (
-    sym (ap counted e ∙ ap done (turned-length (streams es ns) v ∙ streams-length es ns even)),
-    (
-      sym (ap (λ (a : Answer (List Stream)). output-after easts a oe) e ∙ ap (λ (l : List ℤ). written l oe) (turned-easts es ns even t)),
-      sym (ap (λ (a : Answer (List Stream)). output-after norths a on) e ∙ ap (λ (l : List ℤ). written l on) (turned-norths es ns even t)),
-    ),
-  )
+  -- from the place of entry on all corners are written
+  pub turn-done : {r : Turned} {oe' on' : List ℤ} {k : ℕ} → Passed es ns → envelope (streams es ns) ≡ true → Entry (streams es ns) k →
+      turned-as r ≡ done (length es) → oe' ≡ written (turned-from k es) oe → on' ≡ written (turned-from k ns) on →
+      turn-answer es ns oe on ≡ done (turn-about (streams es ns)) → TurnPromise es ns oe on r oe' on'
+  turn-done p v t h he hn e =
+      record {
+        answer = h ∙ sym (ap counted e ∙ ap done (turned-length (streams es ns) v ∙ streams-length es ns (p .even)));
+        east-after =
+            he ∙
+            sym (ap (λ (a : Answer (List Stream)). output-after easts a oe) e ∙ ap (λ (l : List ℤ). written l oe) (turned-easts es ns (p .even) t));
+        north-after =
+            hn ∙
+            sym (ap (λ (a : Answer (List Stream)). output-after norths a on) e ∙ ap (λ (l : List ℤ). written l on) (turned-norths es ns (p .even) t));
+      }

@@ -17,10 +17,10 @@ use Rattle.neighbours.specs.Test.{turns, closes, goes-round, neighbourly}
 module _ (xs : List Stream) where
   -- what is left of the ring at place i
   left-at : (i : ℕ) → i < length xs → drop i xs ≡ sample xs i ∷ drop (i + 1) xs
-  left-at i h = drop-cons xs i (stream (pos 0) (pos 0)) h ∙ ap (λ (k : ℕ). sample xs i ∷ drop k xs) (sym-add-one i)
+  left-at i h = drop-cons xs i (stream (pos 0) (pos 0)) h ∙ ap (λ (k : ℕ). sample xs i ∷ drop k xs) (next i)
     where
-      sym-add-one : (i : ℕ) → suc i ≡ i + 1
-      sym-add-one i = omega arith
+      next : (i : ℕ) → suc i ≡ i + 1
+      next i = omega arith
 
   -- ---- from place 0 to place 1, over all corners and back
 
@@ -34,10 +34,13 @@ module _ (xs : List Stream) where
   round-more i two h =
       ap (goes-round (sample xs 0) (sample xs (i - 2)) (sample xs (i - 1))) (left-at i h) ∙
       ap₂
-      (λ (j k : ℕ). turns (sample xs (i - 2)) (sample xs (i - 1)) (sample xs i) && goes-round (sample xs 0) (sample xs j) (sample xs k) (drop (i + 1) xs))
+      (λ (j k : ℕ). here && goes-round (sample xs 0) (sample xs j) (sample xs k) (drop (i + 1) xs))
       (one-less i two)
       (same-place i)
     where
+      here : Bool
+      here = turns (sample xs (i - 2)) (sample xs (i - 1)) (sample xs i)
+
       one-less : (i : ℕ) → 2 ≤ i → i - 1 ≡ i + 1 - 2
       one-less i h = omega arith
 
@@ -47,8 +50,6 @@ module _ (xs : List Stream) where
   pub round-end : (i : ℕ) → length xs ≤ i → round-from i ≡ closes (sample xs (i - 2)) (sample xs (i - 1)) (sample xs 0)
   unfolding goes-round
   round-end i h = ap (goes-round (sample xs 0) (sample xs (i - 2)) (sample xs (i - 1))) (drop-of-length-le xs h)
-
-  -- ---- the three kinds of ring
 
   -- ---- inside every edge
 

@@ -16,6 +16,7 @@ use ringside::beyond;
 use ringside::first_beyond;
 use ringside::strictly_right;
 
+// Yes or no, or a refusal's number and place.
 pub enum Covered {
     Yes,
     No,
@@ -44,6 +45,7 @@ fn refused(number: u32, place: usize) -> Covered
     Covered::Refused { number, place }
 }
 
+// Whether the ring covers the stream (x, y), unless refused: 1, 2 and 3 for the ring, 3 for the stream, 9.
 pub fn cover(east: &[i32], north: &[i32], x: i32, y: i32) -> Covered
     ensures { λ r. ⌜ covered-as r ≡ cover-answer (now (east .entry)) (now (north .entry)) x y ⌝ }
 {

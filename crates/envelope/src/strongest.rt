@@ -18,6 +18,7 @@ use ringside::beyond;
 use ringside::first_beyond;
 use ringside::set_on;
 
+// The greatest set and the first place that has it, or a refusal's number and place.
 pub enum StrongestSet {
     Greatest { set: i64, place: usize },
     Refused { number: u32, place: usize },
@@ -26,7 +27,8 @@ pub enum StrongestSet {
 // The first place that no corner beats.
 fn strongest_place(east: &[i32], north: &[i32], course: Stream) -> usize
     requires { ⌜ Passed (now east) (now north) × Near (stream-of course) × (0 < length (now east)) ⌝ }
-    ensures { λ r. ⌜ First (stronger (course .east) (course .north)) (streams (now (east .entry)) (now (north .entry))) (length (now (east .entry))) r ⌝ }
+    ensures { λ r. ⌜ First (stronger (course .east) (course .north)) (streams (now (east .entry)) (now (north .entry)))
+        (length (now (east .entry))) r ⌝ }
 {
     let mut best = 0;
     let mut i = 1;
@@ -56,6 +58,7 @@ fn refused(number: u32, place: usize) -> StrongestSet
     StrongestSet::Refused { number, place }
 }
 
+// The strongest set on the course (x, y), unless refused: 1, 2 and 3 for the ring, 3 for the course, 9, 10, 11.
 pub fn strongest(east: &[i32], north: &[i32], x: i32, y: i32) -> StrongestSet
     ensures { λ r. ⌜ strongest-as r ≡ strongest-answer (now (east .entry)) (now (north .entry)) x y ⌝ }
 {

@@ -5,5 +5,6 @@ mod doors;
 mod hands;
 mod joins;
 mod picks;
+mod records;
 mod rings;
 mod rounds;

@@ -127,9 +127,9 @@ pub fn put(
 pub fn clear(w: &mut [u32])
     ensures { λ _. ⌜ now (w .exit) ≡ zeros (now (w .entry)) ⌝ }
 {
-    let mut i = 0;
-    while i < w.len() {
-        w[i] = 0;
-        i += 1;
+    let mut at = 0;
+    while at < w.len() {
+        w[at] = 0;
+        at += 1;
     }
 }

@@ -27,13 +27,16 @@ module _ {A : Type 0} (t : Test) (ts : List Test) (x : A) where
 module _ (es ns : List ℤ) where
   -- i is the first place beyond the limit, or the count
   module _ {i : ℕ} (even : length es ≡ length ns) (first : i ≡ first-place beyond (streams es ns)) where
+    count : length (streams es ns) ≡ length es
+    count = streams-length es ns even
+
     beyond-there : i < length es → some-of beyond (streams es ns) ≡ true
     beyond-there h =
-        some-of-place (streams es ns) ∙ lt-ltb (first-place beyond (streams es ns)) (length (streams es ns)) (omega (arith, first, streams-length es ns even))
+        some-of-place (streams es ns) ∙ lt-ltb (first-place beyond (streams es ns)) (length (streams es ns)) (omega (arith, first, count))
 
     none-beyond : length es ≤ i → some-of beyond (streams es ns) ≡ false
     none-beyond h =
-        some-of-place (streams es ns) ∙ le-ltb (first-place beyond (streams es ns)) (length (streams es ns)) (omega (arith, first, streams-length es ns even))
+        some-of-place (streams es ns) ∙ le-ltb (first-place beyond (streams es ns)) (length (streams es ns)) (omega (arith, first, count))
 
     pub passed : length es ≤ i → Passed es ns
     passed h = record { even = even; near = sample-near (streams es ns) (none-beyond h) }

@@ -15,7 +15,9 @@ returns : tie.Need-returns
 returns c =
     let a = c .before .before .args in
     let i = a .i in
-    ap₂ stream (toZ-ofZ {w = w32} {z = getD (a .east .now) i (pos 0)} (record { sfits = c .before .t6 .given })) (toZ-ofZ {w = w32} {z = getD (a .north .now) i (pos 0)} (record { sfits = c .t9 .given })) ∙
+    ap₂ stream
+    (toZ-ofZ {w = w32} {z = getD (a .east .now) i (pos 0)} (record { sfits = c .before .t6 .given }))
+    (toZ-ofZ {w = w32} {z = getD (a .north .now) i (pos 0)} (record { sfits = c .t9 .given })) ∙
     sym (streams-sample (a .east .now) (a .north .now) (c .before .before .pre .0) i)
 
 pub at-spec : {M : Type 1} → statement M

@@ -9,14 +9,18 @@ use mir.Facts.{toZ-ofZ}
 use Rattle.rules.specs.Streams.{eqZ}
 use Rattle.rules.specs.Chain.{leftmost}
 use Rattle.whole.specs.Laws.{eq-test, ne-test}
+use Rattle.ringside.specs.Words.{read}
 use Rattle.ringside.proofs.leftmost.Statement.{statement}
 use Rattle.ringside.proofs.leftmost.Tie as tie
 
 -- the easts are read as they are
-p-east : (c : tie.After-struct-told2) → toZ w32 (ofZ w32 (c .before .before .before .before .args .p .east)) ≡ c .before .before .before .before .args .p .east
+abbrev start : tie.After-struct-told2 → tie.Start
+start c = c .before .before .before .before
+
+p-east : (c : tie.After-struct-told2) → read (start c .args .p .east) ≡ start c .args .p .east
 p-east c = toZ-ofZ (record { sfits = c .before .before .struct-told .given .0 .1 })
 
-q-east : (c : tie.After-struct-told2) → toZ w32 (ofZ w32 (c .before .before .before .before .args .q .east)) ≡ c .before .before .before .before .args .q .east
+q-east : (c : tie.After-struct-told2) → read (start c .args .q .east) ≡ start c .args .q .east
 q-east c = toZ-ofZ (record { sfits = c .struct-told2 .given .0 .1 })
 
 not-west : (c : tie.Else1) → let a = c .before .before .before .before .before .args in ltZ (a .p .east) (a .q .east) ≡ false

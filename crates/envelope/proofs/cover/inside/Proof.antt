@@ -2,13 +2,14 @@
 -- of the ring. Assumes nothing.
 use mathlib.Core.Path.{_≡_, refl, sym, ap, _∙_}
 use mathlib.Core.Bool.{Bool, _&&_}
+use mathlib.Core.List.{List}
 use Prim.Native.Nat.{_+_, _-_, _≤_}
 use native.Mathlib.Omega.{arith}
 use lib.IntN.{pos}
 use lib.Signed.{ltZ}
 use lib.ListN.{length}
 use borrow.Author.Tests.{not-true, not-false}
-use Rattle.rules.specs.Streams.{streams, side}
+use Rattle.rules.specs.Streams.{Stream, streams, side}
 use Rattle.ringside.specs.Meaning.{stream-of}
 use Rattle.ringside.specs.Samples.{streams-length, read-near}
 use Rattle.envelope.specs.Walks.{inside-from, inside-more, inside-end}
@@ -24,8 +25,15 @@ Inv-loop east north s n i₀ i =
 abbrev μ-loop : tie.MeasureT-loop
 μ-loop east north s n i₀ i = length east - i
 
-loop-holds : tie.Need-loop-holds Inv-loop μ-loop
-loop-holds c = (omega arith, omega arith, refl)
+-- the ring, how many corners it has, and the stream
+abbrev ring-of : tie.Start Inv-loop μ-loop → List Stream
+ring-of c = streams (c .args .east .now) (c .args .north .now)
+
+count : (c : tie.Start Inv-loop μ-loop) → length (ring-of c) ≡ length (c .args .east .now)
+count c = streams-length (c .args .east .now) (c .args .north .now) (c .pre .0 .even)
+
+abbrev asked : tie.Start Inv-loop μ-loop → Stream
+asked c = stream-of (c .args .s)
 
 strictly-right-requires : tie.Need-strictly-right-requires Inv-loop μ-loop
 strictly-right-requires c κs =
@@ -33,39 +41,28 @@ strictly-right-requires c κs =
     let i = c .before .before .before .loop .i in
     (read-near (p .0) (i - 1) (c .before .at .ensures), read-near (p .0) i (c .at2 .ensures), p .1)
 
--- one turn of the loop
-tested : (c : tie.After-strictly-right Inv-loop μ-loop) →
-    let a = c .before .before .before .before .before .args in
-    let xs = streams (a .east .now) (a .north .now) in
-    inside-from xs (stream-of (a .s)) 1 ≡
-    (c .strictly-right .result && inside-from xs (stream-of (a .s)) (c .before .before .before .before .loop .i + 1))
-tested c =
-    let a = c .before .before .before .before .before .args in
-    let xs = streams (a .east .now) (a .north .now) in
-    let i = c .before .before .before .before .loop .i in
-    let count : length xs ≡ length (a .east .now) = streams-length (a .east .now) (a .north .now) (c .before .before .before .before .before .pre .0 .even) in
+-- one turn of the loop, by what it found
+went : (c : tie.After-strictly-right Inv-loop μ-loop) {b : Bool} → c .strictly-right .result ≡ b →
+    let start = c .before .before .before .before .before in
+    inside-from (ring-of start) (asked start) 1 ≡
+    (b && inside-from (ring-of start) (asked start) (c .before .before .before .before .loop .i + 1))
+went c e =
+    let start = c .before .before .before .before .before in
+    let xs = ring-of start in
+    let s = asked start in
+    let l = c .before .before .before .before .loop in
+    let n : length xs ≡ length (start .args .east .now) = count start in
     let same = c .strictly-right .ensures ∙
-    (λ k. ltZ (side (c .before .before .at .ensures k) (c .before .at2 .ensures k) (stream-of (a .s))) (pos 0)) in
-    c .before .before .before .before .loop .inv .2 ∙
-    inside-more xs (stream-of (a .s)) i (omega arith) (omega arith) ∙
-    ap (λ (b : Bool). b && inside-from xs (stream-of (a .s)) (i + 1)) (sym same)
+    (λ k. ltZ (side (c .before .before .at .ensures k) (c .before .at2 .ensures k) s) (pos 0)) in
+    l .inv .2 ∙
+    inside-more xs s (l .i) (omega arith) (omega arith) ∙
+    ap (λ (b : Bool). b && inside-from xs s (l .i + 1)) (sym same ∙ e)
 
 returns : tie.Need-returns Inv-loop μ-loop
-returns c =
-    let a = c .before .before .before .before .before .before .args in
-    let i = c .before .before .before .before .before .loop .i in
-    sym (tested (c .before) ∙
-    ap (λ (b : Bool). b && inside-from (streams (a .east .now) (a .north .now)) (stream-of (a .s)) (i + 1)) (not-true (c .before .strictly-right .result) (c .if1 .taken)))
+returns c = sym (went (c .before) (not-true (c .before .strictly-right .result) (c .if1 .taken)))
 
 loop-again : tie.Need-loop-again Inv-loop μ-loop
-loop-again c =
-    let a = c .before .before .before .before .before .before .args in
-    let i = c .before .before .before .before .before .loop .i in (
-      omega arith,
-      omega arith,
-      tested (c .before) ∙
-          ap (λ (b : Bool). b && inside-from (streams (a .east .now) (a .north .now)) (stream-of (a .s)) (i + 1)) (not-false (c .before .strictly-right .result) (c .if1 .left)),
-    )
+loop-again c = (omega arith, omega arith, went (c .before) (not-false (c .before .strictly-right .result) (c .if1 .left)))
 
 strictly-right-requires-2 : tie.Need-strictly-right-requires-2 Inv-loop μ-loop
 strictly-right-requires-2 c κs =
@@ -75,15 +72,15 @@ strictly-right-requires-2 c κs =
 
 returns-2 : tie.Need-returns-2 Inv-loop μ-loop
 returns-2 c =
-    let a = c .before .before .before .before .before .args in
-    let xs = streams (a .east .now) (a .north .now) in
-    let n = length (a .east .now) in
-    let i = c .before .before .before .before .loop .i in
-    let count : length xs ≡ n = streams-length (a .east .now) (a .north .now) (c .before .before .before .before .before .pre .0 .even) in
-    let end : i ≡ n = omega arith in
+    let start = c .before .before .before .before .before in
+    let xs = ring-of start in
+    let n = length (start .args .east .now) in
+    let l = c .before .before .before .before .loop in
+    let many : length xs ≡ n = count start in
+    let end : l .i ≡ n = omega arith in
     c .strictly-right2 .ensures ∙
-    (λ k. ltZ (side (c .before .before .at3 .ensures k) (c .before .at4 .ensures k) (stream-of (a .s))) (pos 0)) ∙
-    sym (c .before .before .before .before .loop .inv .2 ∙ ap (inside-from xs (stream-of (a .s))) end ∙ inside-end xs (stream-of (a .s)) n (omega arith))
+    (λ k. ltZ (side (c .before .before .at3 .ensures k) (c .before .at4 .ensures k) (asked start)) (pos 0)) ∙
+    sym (l .inv .2 ∙ ap (inside-from xs (asked start)) end ∙ inside-end xs (asked start) n (omega arith))
 
 pub inside-spec : {M : Type 1} → statement M
 inside-spec =
@@ -91,7 +88,7 @@ inside-spec =
     (tie.spec
     Inv-loop
     μ-loop
-    loop-holds
+    (λ c. (omega arith, omega arith, refl))
     (λ c. omega arith)
     (λ c κs. omega arith)
     (λ c κs. omega arith)

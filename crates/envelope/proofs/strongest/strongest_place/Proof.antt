@@ -61,12 +61,13 @@ loop-again c =
     let a = c .before .before .before .before .before .before .before .args in
     let xs = streams (a .east .now) (a .north .now) in
     let l = c .before .before .before .before .before .before .loop in
-    let by = stronger (a .course .east) (a .course .north) in
-    let orders = stronger-orders (a .course .east) (a .course .north) in (
+    let orders = stronger-orders (a .course .east) (a .course .north) in
+    let found = sym (compared (c .before)) in
+    let next = First (stronger (a .course .east) (a .course .north)) xs (l .i + 1) in (
       omega arith,
       ⊎-elim
-          (λ w. subst (First by xs (l .i + 1)) (sym (w .1)) (first-taken orders xs (l .inv .1) (sym (compared (c .before)) ∙ w .0 .taken)))
-          (λ w. subst (First by xs (l .i + 1)) (sym (w .1)) (first-left orders xs (l .inv .1) (sym (compared (c .before)) ∙ w .0 .left)))
+          (λ w. subst next (sym (w .1)) (first-taken orders xs (l .inv .1) (found ∙ w .0 .taken)))
+          (λ w. subst next (sym (w .1)) (first-left orders xs (l .inv .1) (found ∙ w .0 .left)))
           (c .if1 .came),
     )
 

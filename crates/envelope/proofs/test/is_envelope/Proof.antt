@@ -1,12 +1,16 @@
 -- `envelope::test::is_envelope` meets its contract: the test of neighbours, which tells the envelopes from all other lists.
 -- Assumes nothing.
 use mathlib.Core.Path.{_≡_, sym, ap, ap₂, _∙_}
-use mathlib.Core.Bool.{Bool, _&&_}
+use mathlib.Core.Bool.{Bool, true, false, _&&_}
+use mathlib.Core.List.{List}
+use Prim.Native.Nat.{_<_}
 use native.Mathlib.Omega.{arith}
 use lib.Signed.{ltZ}
+use lib.ListN.{length}
 use borrow.Author.Needs.{needs}
 use Rattle.rules.specs.Streams.{Stream, streams, sample}
 use Rattle.rules.specs.Chain.{leftmost}
+use Rattle.rules.specs.Use.{envelope}
 use Rattle.neighbours.specs.Recognised.{recognised}
 use Rattle.ringside.specs.Samples.{streams-length, read-near}
 use Rattle.ringside.specs.Words.{read, held}
@@ -14,55 +18,52 @@ use Rattle.envelope.specs.Walks.{round-from, few-pass, two-pass, more-pa
 use Rattle.envelope.proofs.test.is_envelope.Statement.{statement}
 use Rattle.envelope.proofs.test.is_envelope.Tie as tie
 
+-- the ring, and how many corners it has
+abbrev ring-of : tie.Start → List Stream
+ring-of c = streams (c .args .east .now) (c .args .north .now)
+
+count : (c : tie.Start) → length (ring-of c) ≡ length (c .args .east .now)
+count c = streams-length (c .args .east .now) (c .args .north .now) (c .pre .even)
+
 returns : tie.Need-returns
-returns c =
-    let xs = streams (c .before .args .east .now) (c .before .args .north .now) in
-    let count = streams-length (c .before .args .east .now) (c .before .args .north .now) (c .before .pre .even) in
-    sym (few-pass xs (omega (arith, count))) ∙ recognised xs
+returns c = sym (few-pass (ring-of (c .before)) (omega (arith, count (c .before)))) ∙ recognised (ring-of (c .before))
 
 returns-2 : tie.Need-returns-2
 returns-2 c =
-    let a = c .before .before .before .before .before .args in
-    let xs = streams (a .east .now) (a .north .now) in
-    let count = streams-length (a .east .now) (a .north .now) (c .before .before .before .before .before .pre .even) in
+    let start = c .before .before .before .before .before in
     c .leftmost .ensures ∙
     (λ k. leftmost (c .before .before .before .at .ensures k) (c .before .before .at2 .ensures k)) ∙
-    sym (two-pass xs (omega (arith, count))) ∙
-    recognised xs
+    sym (two-pass (ring-of start) (omega (arith, count start))) ∙
+    recognised (ring-of start)
 
--- what the code compares are the easts of the first two corners
+-- from where the easts of the first two corners are compared
+abbrev start : tie.After-struct-told2 → tie.Start
+start c = c .before .before .before .before .before .before .before .before
+
 compared : (c : tie.After-struct-told2) →
-    let a = c .before .before .before .before .before .before .before .before .args in
-    let xs = streams (a .east .now) (a .north .now) in
-    ltZ (read (c .before .before .before .before .before .before .at .result .east)) (read (c .before .before .before .before .before .at2 .result .east)) ≡
-    ltZ (sample xs 0 .east) (sample xs 1 .east)
+    let first = c .before .before .before .before .before .before .at .result in
+    let second = c .before .before .before .before .before .at2 .result in
+    ltZ (read (first .east)) (read (second .east)) ≡ ltZ (sample (ring-of (start c)) 0 .east) (sample (ring-of (start c)) 1 .east)
 compared c =
-    let p = c .before .before .before .before .before .before .before .before .pre in
     let first = c .before .before .before .before .before .before .at .ensures in
     let second = c .before .before .before .before .before .at2 .ensures in
     ap₂ ltZ
-    (held (read-near p 0 first .east-near) .same ∙ ap (λ (s : Stream). s .east) first)
-    (held (read-near p 1 second .east-near) .same ∙ ap (λ (s : Stream). s .east) second)
+    (held (read-near (start c .pre) 0 first .east-near) .same ∙ ap (λ (s : Stream). s .east) first)
+    (held (read-near (start c .pre) 1 second .east-near) .same ∙ ap (λ (s : Stream). s .east) second)
+
+-- so the answer is what the code found of the sides
+sides : (c : tie.After-struct-told2) (b : Bool) → b ≡ ltZ (sample (ring-of (start c)) 0 .east) (sample (ring-of (start c)) 1 .east) →
+    (2 < length (c .before .before .before .before .before .before .before .before .args .east .now)) →
+    (b && round-from (ring-of (start c)) 2) ≡ envelope (ring-of (start c))
+sides c b e h =
+    let xs = ring-of (start c) in
+    ap (λ (b : Bool). b && round-from xs 2) e ∙ sym (more-pass xs (omega (arith, count (start c)))) ∙ recognised xs
 
 returns-3 : tie.Need-returns-3
-returns-3 c =
-    let a = c .before .before .before .before .before .before .before .before .before .before .args in
-    let xs = streams (a .east .now) (a .north .now) in
-    let even = c .before .before .before .before .before .before .before .before .before .before .pre .even in
-    let count = streams-length (a .east .now) (a .north .now) even in
-    c .goes-round .ensures ∙
-    ap (λ (b : Bool). b && round-from xs 2) (sym (c .before .if3 .taken) ∙ compared (c .before .before)) ∙
-    sym (more-pass xs (omega (arith, count))) ∙
-    recognised xs
+returns-3 c = c .goes-round .ensures ∙ sides (c .before .before) true (sym (c .before .if3 .taken) ∙ compared (c .before .before)) (omega arith)
 
 returns-4 : tie.Need-returns-4
-returns-4 c =
-    let a = c .before .before .before .before .before .before .before .before .before .args in
-    let xs = streams (a .east .now) (a .north .now) in
-    let count = streams-length (a .east .now) (a .north .now) (c .before .before .before .before .before .before .before .before .before .pre .even) in
-    ap (λ (b : Bool). b && round-from xs 2) (sym (c .if3 .left) ∙ compared (c .before)) ∙
-    sym (more-pass xs (omega (arith, count))) ∙
-    recognised xs
+returns-4 c = sides (c .before) false (sym (c .if3 .left) ∙ compared (c .before)) (omega arith)
 
 pub is-envelope-spec : {M : Type 1} → statement M
 is-envelope-spec =

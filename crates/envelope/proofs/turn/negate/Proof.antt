@@ -1,5 +1,5 @@
--- `envelope::turn::negate` meets its contract. The loop's invariant: the first i parts are written with their signs changed, and the rest of the output
--- is as it came. The measure is what is left of the parts. Assumes nothing.
+-- `envelope::turn::negate` meets its contract. The loop's invariant: the first i parts are written with their signs changed, and the rest of the
+-- output is as it came. The measure is what is left of the parts. Assumes nothing.
 use mathlib.Core.Path.{_≡_, refl, sym, ap, _∙_}
 use mathlib.Core.List.{map, _++_}
 use Prim.Native.Nat.{ℕ, _-_, _≤_}

@@ -12,13 +12,13 @@ returns : tie.Need-returns
 returns c =
     let said = c .before .before .before .before .before .turn-about .ensures in
     let a = c .before .before .before .before .before .before .before .before .args in
-    (ap count-face (ap turned-as (sym (c .before .count .given .1)) ∙ said .0) ∙ counted-is (turn-answer (a .east .now) (a .north .now) (a .easts .now) (a .norths .now)), said .1)
+    (ap count-face (ap turned-as (sym (c .before .count .given .1)) ∙ said .answer) ∙ counted-is (turn-answer (a .east .now) (a .north .now) (a .easts .now) (a .norths .now)), (said .east-after, said .north-after))
 
 returns-2 : tie.Need-returns-2
 returns-2 c =
     let said = c .before .before .before .before .before .turn-about .ensures in
     let a = c .before .before .before .before .before .before .before .before .args in
-    (ap count-face (ap turned-as (sym (c .before .number .given .1)) ∙ said .0) ∙ counted-is (turn-answer (a .east .now) (a .north .now) (a .easts .now) (a .norths .now)), said .1)
+    (ap count-face (ap turned-as (sym (c .before .number .given .1)) ∙ said .answer) ∙ counted-is (turn-answer (a .east .now) (a .north .now) (a .easts .now) (a .norths .now)), (said .east-after, said .north-after))
 
 pub nuoskelma-turn-about-spec : {M : Type 1} → statement M
 nuoskelma-turn-about-spec =

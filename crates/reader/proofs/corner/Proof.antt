@@ -1,0 +1,37 @@
+-- `reader::corner` meets its contract: the corner's eight bytes lie inside the record.
+-- Assumes nothing.
+use mathlib.Core.Path.{_≡_, refl, sym, ap, ap₂, _∙_}
+use Prim.Native.Nat.{_+_, _*_, _≤_}
+use native.Mathlib.Omega.{arith}
+use borrow.Author.Needs.{needs}
+use mir.Syntax.{w32}
+use Rattle.whole.specs.Fits.{cast-read}
+use lib.ListN.{length}
+use Rattle.rules.specs.Streams.{stream}
+use Rattle.rules.specs.Record.{twos}
+use Rattle.reader.specs.Corners.{record-count, record-sample}
+use Rattle.reader.proofs.corner.Statement.{statement}
+use Rattle.reader.proofs.corner.Tie as tie
+
+inside : (s : tie.Start) → 5 + 8 * s .args .i + 8 ≤ length (s .args .bytes .now)
+inside s = omega (arith, s .pre, record-count (s .args .bytes .now))
+
+returns : tie.Need-returns
+returns c =
+    let s = c .before .before .before .before .before in
+    let east = cast-read w32 (c .before .before .part .result) (c .before .before .part .ok) .same ∙ c .before .before .part .ensures ∙ ap twos (c .before .before .before .word .ensures) in
+    let north = cast-read w32 (c .part2 .result) (c .part2 .ok) .same ∙ c .part2 .ensures ∙ ap twos (c .before .word2 .ensures) in
+    ap₂ stream east north ∙ sym (record-sample (s .args .bytes .now) (s .args .i) (s .pre))
+
+pub corner-spec : {M : Type 1} → statement M
+corner-spec =
+    tie.close
+    (tie.spec
+    (λ c. omega (arith, inside (c .before)))
+    (λ c. omega (arith, inside (c .before)))
+    (λ c κs. omega (arith, inside (c .before)))
+    (λ c κs. search needs)
+    (λ c. omega (arith, inside (c .before .before .before)))
+    (λ c κs. omega (arith, inside (c .before .before .before)))
+    (λ c κs. search needs)
+    returns)

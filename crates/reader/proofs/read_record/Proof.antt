@@ -1,0 +1,133 @@
+-- `reader::read_record` meets its contract: each return is the rules' tests in the order in which the code makes them.
+-- Assumes nothing.
+use mathlib.Core.Path.{_≡_, refl, sym, ap, _∙_}
+use mathlib.Core.Bool.{true, false}
+use Prim.Native.Nat.{_≤_}
+use native.Mathlib.Omega.{arith}
+use borrow.Author.Needs.{needs}
+use borrow.Author.Tests.{not-true, not-false}
+use lib.ListN.{length}
+use Rattle.rules.specs.Lists.{some-of}
+use Rattle.rules.specs.Streams.{most, beyond}
+use Rattle.rules.specs.Use.{envelope}
+use Rattle.rules.specs.Refusals.{done}
+use Rattle.rules.specs.Entries.{record-corners}
+use Rattle.ringside.specs.Samples.{sample-near}
+use Rattle.reader.specs.Meaning.{frame-number, Passed, Room}
+use Rattle.reader.specs.Corners.{record-count}
+use Rattle.reader.specs.Outcome.{refused-frame, refused-2, refused-3, refused-9, east-short, north-short, answered, long-enough, none-beyond}
+use Rattle.reader.proofs.read_record.Statement.{statement}
+use Rattle.reader.proofs.read_record.Tie as tie
+
+-- ---- what the tests so far say
+
+framed : (c : tie.Else1) → _≡_ 0 (frame-number (c .before .before .before .args .bytes .now))
+framed c = sym (c .if1 .left) ∙ c .before .frame .ensures
+
+few : (c : tie.Else2) → length (record-corners (c .before .before .before .before .args .bytes .now)) ≤ most
+few c = omega (arith, record-count (c .before .before .before .before .args .bytes .now), c .if2 .left)
+
+near : (c : tie.Else3) → some-of beyond (record-corners (c .before .before .before .before .before .before .args .bytes .now)) ≡ false
+near c =
+    let bs = c .before .before .before .before .before .before .args .bytes .now in
+    none-beyond (record-corners bs) (c .before .first-beyond .result) (c .before .first-beyond .ensures) (omega (arith, record-count bs, c .if3 .left))
+
+is : (c : tie.Else4) → envelope (record-corners (c .before .before .before .before .before .before .before .before .args .bytes .now)) ≡ true
+is c = sym (c .before .is-envelope .ensures) ∙ not-false (c .before .is-envelope .result) (c .if4 .left)
+
+-- ---- the returns
+
+returns : tie.Need-returns
+returns c =
+    let a = c .before .before .before .args in
+    rw (refused-frame (a .bytes .now) (a .east .now) (a .north .now) (c .before .frame .result) (c .before .frame .ensures) (c .if1 .taken)) (refl, (refl, refl))
+
+returns-2 : tie.Need-returns-2
+returns-2 c =
+    let a = c .before .before .before .before .args in
+    rw (refused-2 (a .bytes .now) (a .east .now) (a .north .now) (framed (c .before)) (omega (arith, record-count (a .bytes .now), c .if2 .taken))) (refl, (refl, refl))
+
+returns-3 : tie.Need-returns-3
+returns-3 c =
+    let f = c .before .before in
+    let a = f .before .before .before .before .args in
+    rw
+    (refused-3 (a .bytes .now) (a .east .now) (a .north .now) (framed (f .before)) (few f) (c .before .first-beyond .result) (c .before .first-beyond .ensures)
+    (omega (arith, record-count (a .bytes .now), c .if3 .taken)))
+    (refl, (refl, refl))
+
+is-envelope-requires : tie.Need-is-envelope-requires
+is-envelope-requires c κs =
+    let bs = c .before .before .before .before .before .before .args .bytes .now in
+    record { count = sym (record-count bs); near = sample-near (record-corners bs) (near c) }
+
+returns-4 : tie.Need-returns-4
+returns-4 c =
+    let n = c .before .before in
+    let f = n .before .before in
+    let a = f .before .before .before .before .args in
+    rw
+    (refused-9 (a .bytes .now) (a .east .now) (a .north .now) (framed (f .before)) (few f) (near n)
+    (sym (c .before .is-envelope .ensures) ∙ not-true (c .before .is-envelope .result) (c .if4 .taken)))
+    (refl, (refl, refl))
+
+returns-5 : tie.Need-returns-5
+returns-5 c =
+    let e = c .before in
+    let n = e .before .before in
+    let f = n .before .before in
+    let a = f .before .before .before .before .args in
+    rw
+    (east-short (a .bytes .now) (a .east .now) (a .north .now) (framed (f .before)) (few f) (near n) (is e) (omega (arith, record-count (a .bytes .now), c .if5 .taken)))
+    (refl, (refl, refl))
+
+returns-6 : tie.Need-returns-6
+returns-6 c =
+    let e = c .before .before in
+    let n = e .before .before in
+    let f = n .before .before in
+    let a = f .before .before .before .before .args in
+    rw
+    (north-short (a .bytes .now) (a .east .now) (a .north .now) (framed (f .before)) (few f) (near n) (is e)
+    (omega (arith, record-count (a .bytes .now), c .before .if5 .left))
+    (omega (arith, record-count (a .bytes .now), c .if6 .taken)))
+    (refl, (refl, refl))
+
+write-requires : tie.Need-write-requires
+write-requires c κs =
+    let g = c .before .before in
+    let a = g .before .before .before .before .before .before .before .before .before .before .args in
+    record { count = sym (record-count (a .bytes .now)); east-room = g .before .if5 .left; north-room = g .if6 .left }
+
+returns-7 : tie.Need-returns-7
+returns-7 c =
+    let w = c .before .before in
+    let g = w .before .before .before in
+    let e = g .before .before in
+    let n = e .before .before in
+    let f = n .before .before in
+    let a = f .before .before .before .before .args in
+    rw
+    (answered (a .bytes .now) (a .east .now) (a .north .now) (framed (f .before)) (few f) (near n) (is e)
+    (omega (arith, record-count (a .bytes .now), g .before .if5 .left))
+    (omega (arith, record-count (a .bytes .now), g .if6 .left)))
+    (ap done (sym (record-count (a .bytes .now))), w .write .ensures)
+
+pub read-record-spec : {M : Type 1} → statement M
+read-record-spec =
+    tie.close
+    (tie.spec
+    (λ c κs. search needs)
+    returns
+    (λ c. long-enough (c .before .before .before .args .bytes .now) (framed c))
+    returns-2
+    (λ c κs. sym (record-count (c .before .before .before .before .args .bytes .now)))
+    returns-3
+    is-envelope-requires
+    returns-4
+    returns-5
+    returns-6
+    write-requires
+    (λ c. search needs)
+    (λ c. search needs)
+    returns-7)

@@ -1,0 +1,4 @@
+pub mod Meaning
+pub mod Corners
+pub mod Written
+pub mod Outcome
