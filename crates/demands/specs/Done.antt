@@ -4,9 +4,14 @@ use mathlib.Core.Bool.{Bool, true, false, cond}
 use mathlib.Core.List.{List, [], _∷_}
 use Prim.Native.Nat.{ℕ}
 use native.Mathlib.Omega.{arith}
+use lib.IntN.{ℤ}
+use lib.ListN.{length, take, drop}
+use lib.Seq.{take-at}
 use Rattle.rules.specs.Streams.{Stream, streams}
-use Rattle.rules.specs.Refusals.{refused, done, Test, unless}
+use Rattle.rules.specs.Lists.{written}
+use Rattle.rules.specs.Refusals.{Answer, refused, done, Test, unless}
 use Rattle.rules.specs.Entries.{easts, norths}
+use Rattle.envelope.specs.Meaning.{counted}
 
 -- none of the tests holds
 abbrev pub NoneHolds : List Test → Type 0
@@ -21,6 +26,15 @@ when-done (t ∷ ts) x {y} e = go (t .holds) refl e (λ h. when-done ts x h)
         (unless ts x ≡ done y → NoneHolds ts × (x ≡ y)) → NoneHolds (t ∷ ts) × (x ≡ y)
     go true h e rest = absurd (let z : _≡_ {A = ℕ} 0 1 = cc in omega arith)
     go false h e rest = let r = rest e in ((h, r .0), r .1)
+
+-- a done count comes of a done answer
+pub counted-done : (a : Answer (List Stream)) {n : ℕ} → done n ≡ counted a → (r : List Stream) × (a ≡ done r) × (n ≡ length r)
+counted-done (done r) e = (r, refl, cc)
+counted-done (refused number place) e = absurd (let z : _≡_ {A = ℕ} 0 1 = cc in omega arith)
+
+-- what is written at the front can be read there
+pub front : (result old : List ℤ) (n : ℕ) → length result ≡ n → take n (written result old) ≡ result
+front result old n e = take-at result (drop (length result) old) n e
 
 -- a ring is its parts again
 pub streams-parts : (r : List Stream) → streams (easts r) (norths r) ≡ r

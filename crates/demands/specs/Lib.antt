@@ -1,4 +1,5 @@
 pub mod Done
+pub mod Joined
 pub mod Turned
 pub mod Strongest
 pub mod Covered

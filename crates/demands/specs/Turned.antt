@@ -25,7 +25,7 @@ use Rattle.envelope.specs.declared.turn.Turned.{Turned}
 use Rattle.envelope.specs.declared.turn.Turned.the-variants as turn
 use Rattle.envelope.proofs.turn.turn_about.Kinds as turn-kinds
 use Rattle.envelope.proofs.turn.turn_about.Reads as turn-reads
-use Rattle.demands.specs.Done.{when-done, streams-parts}
+use Rattle.demands.specs.Done.{when-done, counted-done, front, streams-parts}
 
 -- a call of turn about
 pub record Turning : Type 1 where
@@ -61,15 +61,6 @@ pub record Turned-about (c : Turning) (n : ℕ) : Type 0 where
   pub count : n ≡ length (turn-about (streams (east c) (north c)))
   pub easts-left : take n (east-after c) ≡ easts (turn-about (streams (east c) (north c)))
   pub norths-left : take n (north-after c) ≡ norths (turn-about (streams (east c) (north c)))
-
--- a done count comes of a done answer
-counted-done : (a : Answer (List Stream)) {n : ℕ} → done n ≡ counted a → (r : List Stream) × (a ≡ done r) × (n ≡ length r)
-counted-done (done r) e = (r, refl, cc)
-counted-done (refused number place) e = absurd (let z : _≡_ {A = ℕ} 0 1 = cc in omega arith)
-
--- what is written at the front can be read there
-front : (result old : List ℤ) (n : ℕ) → length result ≡ n → take n (written result old) ≡ result
-front result old n e = take-at result (drop (length result) old) n e
 
 pub turning-done : (c : Turning) {n : ℕ} → c .answer ≡ turn.Corners n → Turned-about c n
 unfolding turn-answer

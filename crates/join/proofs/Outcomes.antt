@@ -31,5 +31,9 @@ pub join-one : (κs : Lfts 7) (a : Dens κs kinds.ps) (r r' : Joined) (s s' : At
     × (now (s .1 .1 .1 .1 .0) ≡ now (s' .1 .1 .1 .1 .0))
     × (now (s .1 .1 .1 .1 .1 .0) ≡ now (s' .1 .1 .1 .1 .1 .0))
     × (now (s .1 .1 .1 .1 .1 .1 .0) ≡ now (s' .1 .1 .1 .1 .1 .1 .0))
-join-one κs a r r' s s' p q =
-    (LeftInverse·injective joined-from joined-as joined-back r r' (p .0 ∙ sym (q .0)), p .1 .0 ∙ sym (q .1 .0), p .1 .1 .0 ∙ sym (q .1 .1 .0), p .1 .1 .1 ∙ sym (q .1 .1 .1))
+join-one κs a r r' s s' p q = (
+  LeftInverse·injective joined-from joined-as joined-back r r' (p .says ∙ sym (q .says)),
+  p .east-after ∙ sym (q .east-after),
+  p .north-after ∙ sym (q .north-after),
+  p .scratch-is ∙ sym (q .scratch-is),
+)

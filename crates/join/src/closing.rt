@@ -32,7 +32,9 @@ fn same_at(
     j: usize,
 ) -> bool
     requires { ⌜ Rings (now east) (now north) (now east2) (now north2) × TwoOf (count (now east) (now east2)) (now w) i j ⌝ }
-    ensures { λ r. ⌜ r ≡ same (listed-at (now (east .entry)) (now (north .entry)) (now (east2 .entry)) (now (north2 .entry)) true (now (w .entry)) i) (listed-at (now (east .entry)) (now (north .entry)) (now (east2 .entry)) (now (north2 .entry)) true (now (w .entry)) j) ⌝ }
+    ensures { λ r. ⌜ r ≡ same
+        (listed-at (now (east .entry)) (now (north .entry)) (now (east2 .entry)) (now (north2 .entry)) true (now (w .entry)) i)
+        (listed-at (now (east .entry)) (now (north .entry)) (now (east2 .entry)) (now (north2 .entry)) true (now (w .entry)) j) ⌝ }
 {
     same(
         listed(east, north, east2, north2, true, w, i),
@@ -50,8 +52,11 @@ fn after_right(
     u: usize,
     l: usize,
 ) -> usize
-    requires { ⌜ Rings (now east) (now north) (now east2) (now north2) × Both (count (now east) (now east2)) (now w) u l × (0 < u) × (0 < l) ⌝ }
-    ensures { λ r. ⌜ Right (upper-at (now (east .entry)) (now (north .entry)) (now (east2 .entry)) (now (north2 .entry)) (now (w .entry)) u) u (lower-at (now (east .entry)) (now (north .entry)) (now (east2 .entry)) (now (north2 .entry)) (now (w .entry)) u) l r ⌝ }
+    requires { ⌜ Rings (now east) (now north) (now east2) (now north2)
+        × Both (count (now east) (now east2)) (now w) u l × (0 < u) × (0 < l) ⌝ }
+    ensures { λ r. ⌜ Right
+        (upper-at (now (east .entry)) (now (north .entry)) (now (east2 .entry)) (now (north2 .entry)) (now (w .entry)) u) u
+        (lower-at (now (east .entry)) (now (north .entry)) (now (east2 .entry)) (now (north2 .entry)) (now (w .entry)) u) l r ⌝ }
 {
     if same_at(east, north, east2, north2, w, u - 1, u + (l - 1)) {
         return l - 1;
@@ -69,8 +74,11 @@ pub fn left_in(
     u: usize,
     l: usize,
 ) -> LowerPart
-    requires { ⌜ Rings (now east) (now north) (now east2) (now north2) × Both (count (now east) (now east2)) (now w) u l ⌝ }
-    ensures { λ r. ⌜ Closes (upper-at (now (east .entry)) (now (north .entry)) (now (east2 .entry)) (now (north2 .entry)) (now (w .entry)) u) u (lower-at (now (east .entry)) (now (north .entry)) (now (east2 .entry)) (now (north2 .entry)) (now (w .entry)) u) l (r .lo) (r .hi) ⌝ }
+    requires { ⌜ Rings (now east) (now north) (now east2) (now north2)
+        × Both (count (now east) (now east2)) (now w) u l ⌝ }
+    ensures { λ r. ⌜ Closes
+        (upper-at (now (east .entry)) (now (north .entry)) (now (east2 .entry)) (now (north2 .entry)) (now (w .entry)) u) u
+        (lower-at (now (east .entry)) (now (north .entry)) (now (east2 .entry)) (now (north2 .entry)) (now (w .entry)) u) l (r .lo) (r .hi) ⌝ }
 {
     if l == 0 {
         return LowerPart { lo: 0, hi: 0 };
@@ -109,8 +117,12 @@ pub fn put(
     out_east: &mut [i32],
     out_north: &mut [i32],
 )
-    requires { ⌜ Rings (now east) (now north) (now east2) (now north2) × Room (count (now east) (now east2)) (now w) u hi n (now «out_east») (now «out_north») ⌝ }
-    ensures { λ _. ⌜ (now («out_east» .exit) ≡ listed (λ i. ring-corner (now (east .entry)) (now (north .entry)) (now (east2 .entry)) (now (north2 .entry)) (now (w .entry)) u hi i .east) n ++ drop n (now («out_east» .entry))) × (now («out_north» .exit) ≡ listed (λ i. ring-corner (now (east .entry)) (now (north .entry)) (now (east2 .entry)) (now (north2 .entry)) (now (w .entry)) u hi i .north) n ++ drop n (now («out_north» .entry))) ⌝ }
+    requires { ⌜ Rings (now east) (now north) (now east2) (now north2)
+        × Room (count (now east) (now east2)) (now w) u hi n (now «out_east») (now «out_north») ⌝ }
+    ensures { λ _. ⌜ (now («out_east» .exit)
+        ≡ listed (λ i. ring-corner (now (east .entry)) (now (north .entry)) (now (east2 .entry)) (now (north2 .entry)) (now (w .entry)) u hi i .east) n ++ drop n (now («out_east» .entry)))
+        × (now («out_north» .exit)
+        ≡ listed (λ i. ring-corner (now (east .entry)) (now (north .entry)) (now (east2 .entry)) (now (north2 .entry)) (now (w .entry)) u hi i .north) n ++ drop n (now («out_north» .entry))) ⌝ }
 {
     let mut i = 0;
     while i < n {

@@ -5,11 +5,9 @@ ghost use Prim.Native.Nat.{_+_, _≤_};
 ghost use lib.ListN.{length};
 ghost use Rattle.rules.specs.Streams.{streams};
 ghost use Rattle.rules.specs.Use.{join};
-ghost use Rattle.rules.specs.Refusals.{output-after, scratch-after};
-ghost use Rattle.rules.specs.Entries.{join-answer, easts, norths};
-ghost use Rattle.envelope.specs.Meaning.{counted};
+ghost use Rattle.rules.specs.Entries.{join-answer};
 ghost use Rattle.walk.specs.Both.{Rings, count};
-ghost use Rattle.join.specs.Meaning.{joined-as, tested-as, ring-verdict, unless-short, Outcome};
+ghost use Rattle.join.specs.Meaning.{tested-as, ring-verdict, unless-short, Outcome};
 use crate::closing::clear;
 use crate::closing::put;
 use crate::ring::ring_of;
@@ -71,8 +69,12 @@ fn write_join(
     out_north: &mut [i32],
     scratch: &mut [u32],
 ) -> Joined
-    requires { ⌜ Rings (now east) (now north) (now east2) (now north2) × (count (now east) (now east2) + count (now east) (now east2) ≤ length (now scratch)) ⌝ }
-    ensures { λ r. ⌜ Outcome (unless-short (now («out_east» .entry)) (now («out_north» .entry)) (join (streams (now (east .entry)) (now (north .entry))) (streams (now (east2 .entry)) (now (north2 .entry))))) r (now («out_east» .entry)) (now («out_east» .exit)) (now («out_north» .entry)) (now («out_north» .exit)) (now (scratch .entry)) (now (scratch .exit)) ⌝ }
+    requires { ⌜ Rings (now east) (now north) (now east2) (now north2)
+        × (count (now east) (now east2) + count (now east) (now east2) ≤ length (now scratch)) ⌝ }
+    ensures { λ r. ⌜ Outcome
+        (unless-short (now («out_east» .entry)) (now («out_north» .entry))
+        (join (streams (now (east .entry)) (now (north .entry))) (streams (now (east2 .entry)) (now (north2 .entry)))))
+        r (now («out_east» .entry)) (now («out_east» .exit)) (now («out_north» .entry)) (now («out_north» .exit)) (now (scratch .entry)) (now (scratch .exit)) ⌝ }
 {
     let ring = ring_of(east, north, east2, north2, scratch);
     let upper = ring.upper;
@@ -108,7 +110,8 @@ fn write_join(
     Joined::Corners(n)
 }
 
-// The ring of both rings' positions, at the front of the outputs.
+// The ring of both rings' positions, at the front of the outputs, unless refused: each ring's 1, 2, 3, 9, then 2 for both, 4, 5. Scratch is zero where
+// the ring is written and after 5; any other refusal alters nothing.
 pub fn join(
     east: &[i32],
     north: &[i32],
@@ -118,10 +121,10 @@ pub fn join(
     out_north: &mut [i32],
     scratch: &mut [u32],
 ) -> Joined
-    ensures answer { λ r. ⌜ joined-as r ≡ counted (join-answer (now (east .entry)) (now (north .entry)) (now (east2 .entry)) (now (north2 .entry)) (now («out_east» .entry)) (now («out_north» .entry)) (now (scratch .entry))) ⌝ }
-    ensures easts { λ r. ⌜ now («out_east» .exit) ≡ output-after easts (join-answer (now (east .entry)) (now (north .entry)) (now (east2 .entry)) (now (north2 .entry)) (now («out_east» .entry)) (now («out_north» .entry)) (now (scratch .entry))) (now («out_east» .entry)) ⌝ }
-    ensures norths { λ r. ⌜ now («out_north» .exit) ≡ output-after norths (join-answer (now (east .entry)) (now (north .entry)) (now (east2 .entry)) (now (north2 .entry)) (now («out_east» .entry)) (now («out_north» .entry)) (now (scratch .entry))) (now («out_north» .entry)) ⌝ }
-    ensures scratch { λ r. ⌜ now (scratch .exit) ≡ scratch-after (join-answer (now (east .entry)) (now (north .entry)) (now (east2 .entry)) (now (north2 .entry)) (now («out_east» .entry)) (now («out_north» .entry)) (now (scratch .entry))) (now (scratch .entry)) ⌝ }
+    ensures { λ r. ⌜ Outcome
+        (join-answer (now (east .entry)) (now (north .entry)) (now (east2 .entry)) (now (north2 .entry)) (now («out_east» .entry))
+        (now («out_north» .entry)) (now (scratch .entry)))
+        r (now («out_east» .entry)) (now («out_east» .exit)) (now («out_north» .entry)) (now («out_north» .exit)) (now (scratch .entry)) (now (scratch .exit)) ⌝ }
 {
     match test_ring(east, north) {
         Tested::Sound => {}

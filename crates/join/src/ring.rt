@@ -24,7 +24,8 @@ pub fn ring_of(
 ) -> InScratch
     requires { ⌜ Rings (now east) (now north) (now east2) (now north2)
         × (count (now east) (now east2) + count (now east) (now east2) ≤ length (now w)) ⌝ }
-    ensures { λ r. ⌜ RingIn (now (east .entry)) (now (north .entry)) (now (east2 .entry)) (now (north2 .entry)) (now (w .exit)) (r .upper) (r .hi) (r .count) ⌝ }
+    ensures { λ r. ⌜ RingIn (now (east .entry)) (now (north .entry)) (now (east2 .entry)) (now (north2 .entry)) (now (w .exit))
+        (r .upper) (r .hi) (r .count) ⌝ }
 {
     let upper = chain(east, north, east2, north2, true, w);
     let lower = chain(east, north, east2, north2, false, &mut w[upper..]);

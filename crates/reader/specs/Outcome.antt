@@ -51,13 +51,16 @@ module _ (bs : List ℕ) (es ns : List ℤ) where
   pub refused-frame : (k : ℕ) → k ≡ frame-number bs → (k ≡ 0 → ⊥) → record-answer bs es ns ≡ refused k 0
   unfolding record-answer frame-number corners last-tests
   refused-frame k e h =
-      one-holds (eqb (length bs) 0) (not (eqb (version bs) 1)) (misframed bs) k (unless (too-many (length corners) ∷ part-beyond corners ∷ last-tests) corners) e h
+      one-holds (eqb (length bs) 0) (not (eqb (version bs) 1)) (misframed bs) k
+      (unless (too-many (length corners) ∷ part-beyond corners ∷ last-tests) corners) e h
 
   module _ (framed : 0 ≡ frame-number bs) where
     good-frame : record-answer bs es ns ≡ unless (too-many (length corners) ∷ part-beyond corners ∷ last-tests) corners
     unfolding record-answer frame-number corners last-tests
     good-frame =
-        none-holds (eqb (length bs) 0) (not (eqb (version bs) 1)) (misframed bs) (unless (too-many (length corners) ∷ part-beyond corners ∷ last-tests) corners) framed .0
+        none-holds (eqb (length bs) 0) (not (eqb (version bs) 1)) (misframed bs)
+        (unless (too-many (length corners) ∷ part-beyond corners ∷ last-tests) corners)
+        framed .0
 
     pub refused-2 : most < length (record-corners bs) → record-answer bs es ns ≡ refused 2 0
     unfolding corners last-tests
@@ -68,7 +71,8 @@ module _ (bs : List ℕ) (es ns : List ℤ) where
       unfolding corners last-tests
       not-many = good-frame ∙ passes (too-many (length corners)) (part-beyond corners ∷ last-tests) corners (le-ltb most (length corners) few)
 
-      pub refused-3 : (place : ℕ) → place ≡ first-place beyond (record-corners bs) → place < length (record-corners bs) → record-answer bs es ns ≡ refused 3 place
+      pub refused-3 : (place : ℕ) → place ≡ first-place beyond (record-corners bs) → place < length (record-corners bs) →
+          record-answer bs es ns ≡ refused 3 place
       unfolding corners last-tests
       refused-3 place e h =
           not-many
@@ -93,7 +97,8 @@ module _ (bs : List ℕ) (es ns : List ℤ) where
           unfolding corners last-tests
           north-short l h = not-beyond ∙ rw (is, le-ltb (length es) (length corners) l, lt-ltb (length ns) (length corners) h) refl
 
-          pub answered : length (record-corners bs) ≤ length es → length (record-corners bs) ≤ length ns → record-answer bs es ns ≡ done (record-corners bs)
+          pub answered : length (record-corners bs) ≤ length es → length (record-corners bs) ≤ length ns →
+              record-answer bs es ns ≡ done (record-corners bs)
           unfolding corners last-tests
           answered l h = not-beyond ∙ rw (is, le-ltb (length es) (length corners) l, le-ltb (length ns) (length corners) h) refl
 

@@ -1,7 +1,7 @@
 // The record reader: the corners of a record's bytes, if they are an envelope.
 
 ghost use mathlib.Core.Path.{_≡_};
-ghost use Prim.Native.Nat.{_+_, _-_, _≤_, _<_};
+ghost use Prim.Native.Nat.{_+_, _≤_, _<_};
 ghost use lib.ListN.{length};
 ghost use Rattle.rules.specs.Lists.{first-place, written};
 ghost use Rattle.rules.specs.Streams.{sample, beyond};
@@ -9,11 +9,10 @@ ghost use Rattle.rules.specs.Use.{envelope};
 ghost use Rattle.rules.specs.Record.{word, twos};
 ghost use Rattle.rules.specs.Refusals.{output-after};
 ghost use Rattle.rules.specs.Entries.{record-corners, record-answer, easts, norths};
-ghost use Rattle.neighbours.specs.Test.{turns, closes};
 ghost use Rattle.ringside.specs.Meaning.{stream-of};
 ghost use Rattle.envelope.specs.Meaning.{counted};
 ghost use Rattle.envelope.specs.Walks.{round-from};
-ghost use Rattle.reader.specs.Meaning.{corners-as, frame-number, Passed, Room};
+ghost use Rattle.reader.specs.Meaning.{corners-as, frame-number, turns-at, closes-at, Passed, Room};
 use ringside::MOST;
 use ringside::Stream;
 use ringside::beyond;
@@ -144,7 +143,7 @@ fn goes_round(bytes: &[u8], n: usize) -> bool
 // At the corner before place i the ring turns strictly right; and from a side that does not go east only to one that goes west.
 fn turns(bytes: &[u8], n: usize, i: usize) -> bool
     requires { ⌜ Passed (now bytes) n × (2 ≤ i) × (i < n) ⌝ }
-    ensures { λ r. ⌜ r ≡ turns (sample (record-corners (now (bytes .entry))) (i - 2)) (sample (record-corners (now (bytes .entry))) (i - 1)) (sample (record-corners (now (bytes .entry))) i) ⌝ }
+    ensures { λ r. ⌜ r ≡ turns-at (record-corners (now (bytes .entry))) i ⌝ }
 {
     let a = corner(bytes, i - 2);
     let b = corner(bytes, i - 1);
@@ -161,7 +160,7 @@ fn turns(bytes: &[u8], n: usize, i: usize) -> bool
 // At its last corner the ring turns strictly right to its first, and goes there west or straight up.
 fn closes(bytes: &[u8], n: usize) -> bool
     requires { ⌜ Passed (now bytes) n × (2 ≤ n) ⌝ }
-    ensures { λ r. ⌜ r ≡ closes (sample (record-corners (now (bytes .entry))) (n - 2)) (sample (record-corners (now (bytes .entry))) (n - 1)) (sample (record-corners (now (bytes .entry))) 0) ⌝ }
+    ensures { λ r. ⌜ r ≡ closes-at (record-corners (now (bytes .entry))) n ⌝ }
 {
     let a = corner(bytes, n - 2);
     let b = corner(bytes, n - 1);

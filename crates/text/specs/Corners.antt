@@ -1,10 +1,10 @@
 -- Corners printed one after the other, each as its own line.
 -- Assumes nothing.
 use mathlib.Core.Path.{_≡_, refl, sym, ap, _∙_}
-use mathlib.Core.Bool.{Bool, true, false, true≢false}
+use mathlib.Core.Bool.{true, false, true≢false}
 use mathlib.Core.List.{List, [], _∷_, _++_, append-assoc, append-nil}
-use Prim.Native.Nat.{ℕ, zero, suc, _+_, _-_, _≤_, _<_}
-use native.Mathlib.Nat.{zero-add, add-zero}
+use Prim.Native.Nat.{ℕ, suc, _+_, _≤_, _<_}
+use native.Mathlib.Nat.{add-zero}
 use native.Mathlib.Numerals.{add-one}
 use native.Mathlib.Omega.{arith}
 use borrow.Author.Tests.{ltb-true}
@@ -12,11 +12,10 @@ use lib.IntN.{ℤ, pos, negsuc, natAbs}
 use lib.Signed.{ltZ}
 use lib.ListN.{length, getD, drop, length-append, drop-of-length-le}
 use lib.Seq.{drop-cons, append-snoc}
-use Rattle.rules.specs.Lists.{written}
 use Rattle.rules.specs.Streams.{Stream, streams}
 use Rattle.rules.specs.Refusals.{refused, done}
 use Rattle.rules.specs.Program.{newline, space, minus, printed-natural, printed-whole, ring-word, refused-word, printed-corners, printed}
-use Rattle.text.specs.Placed.{placed, placed-none, Put, then, room-after, room-first}
+use Rattle.text.specs.Placed.{placed-none, Put, then, room-after, room-first}
 
 -- ---- a whole number
 

@@ -1,8 +1,8 @@
 -- A text cut at a byte, by the first place that has the byte; and the first place in a text's front.
 -- Assumes nothing.
-use mathlib.Core.Path.{_≡_, refl, sym, ap, _∙_}
+use mathlib.Core.Path.{_≡_, refl, ap, _∙_}
 use mathlib.Core.Bool.{Bool, true, false, cond}
-use mathlib.Core.List.{List, [], _∷_, _++_}
+use mathlib.Core.List.{List, [], _∷_}
 use Prim.Native.Nat.{ℕ, zero, suc, _+_, _-_, _≤_, _<_}
 use native.Mathlib.Numerals.{add-one}
 use native.Mathlib.Omega.{arith}
@@ -11,7 +11,7 @@ use lib.ListN.{length, getD, take, drop, length-drop}
 use lib.Seq.{drop-cons, drop-drop}
 use borrow.Author.Tests.{eq-eqb, ne-eqb}
 use Rattle.rules.specs.Lists.{first-place}
-use Rattle.rules.specs.Program.{Cut, unbroken, broken, longer, cut-at}
+use Rattle.rules.specs.Program.{unbroken, broken, longer, cut-at}
 
 abbrev pub is : ℕ → ℕ → Bool
 is x b = eqb b x
@@ -28,7 +28,8 @@ module _ {A : Type 0} (test : A → Bool) where
 
 module _ (x : ℕ) where
   -- the byte stands somewhere
-  pub cut-found : (bs : List ℕ) → first-place (is x) bs < length bs → cut-at x bs ≡ broken (take (first-place (is x) bs) bs) (drop (suc (first-place (is x) bs)) bs)
+  pub cut-found : (bs : List ℕ) → first-place (is x) bs < length bs →
+      cut-at x bs ≡ broken (take (first-place (is x) bs) bs) (drop (suc (first-place (is x) bs)) bs)
   unfolding first-place cut-at
   cut-found [] h = absurd (omega arith)
   cut-found (b ∷ bs) h = go (eqb b x) h (cut-found bs)

@@ -4,7 +4,7 @@ use mathlib.Core.Path.{_≡_, refl}
 use mathlib.Core.Bool.{Bool, true, false, cond, not, _&&_}
 use mathlib.Core.Option.{Option, none, some}
 use mathlib.Core.List.{List, [], _∷_}
-use Prim.Native.Nat.{ℕ, zero, suc, _+_, _-_, _*_, _^_, _≤_, _<_}
+use Prim.Native.Nat.{ℕ, _+_, _-_, _*_, _^_, _≤_, _<_}
 use native.Mathlib.Nat.{pow-suc, pow-le-pow-right}
 use native.Mathlib.Numerals.{add-one}
 use native.Mathlib.Omega.{arith}
@@ -80,7 +80,9 @@ not-leading (b ∷ c ∷ bs) h = ne-eqb b digit-zero (h (omega arith))
 module _ (bs : List ℕ) where
   pub unsigned-empty : length bs ≡ 0 → unsigned bs ≡ none
   unfolding unsigned
-  unsigned-empty h = rw (lt-leb 1 (length bs) (omega arith)) (second-fails (all-of is-digit bs) (leb (length bs) 7) (not (leading-zero bs)) (some (decimal 0 bs)))
+  unsigned-empty h =
+      rw (lt-leb 1 (length bs) (omega arith))
+      (second-fails (all-of is-digit bs) (leb (length bs) 7) (not (leading-zero bs)) (some (decimal 0 bs)))
 
   pub unsigned-long : 7 < length bs → unsigned bs ≡ none
   unfolding unsigned

@@ -4,7 +4,7 @@
 use mathlib.Core.Path.{_≡_, refl, sym, ap, ap₂, _∙_}
 use mathlib.Core.Bool.{Bool, true, false, cond}
 use mathlib.Core.Option.{Option, none, some}
-use mathlib.Core.List.{List, [], _∷_, _++_}
+use mathlib.Core.List.{List, [], _∷_}
 use Prim.Native.Nat.{ℕ, zero, suc, _+_, _-_, _*_, _≤_, _<_}
 use native.Mathlib.Nat.{le-refl}
 use native.Mathlib.Decide.{decLt}
@@ -13,11 +13,10 @@ use lib.Dec.{eqb}
 use lib.IntN.{ℤ}
 use lib.ListN.{length, take, drop, length-take, length-drop}
 use lib.Seq.{take-nil, take-take, take-add, drop-at, length-take-le}
-use borrow.Author.Tests.{lt-ltb, ne-eqb}
 use Rattle.rules.specs.Lists.{first-place}
 use Rattle.rules.specs.Streams.{Stream}
-use Rattle.rules.specs.Refusals.{Answer, refused, done}
-use Rattle.rules.specs.Program.{Cut, unbroken, broken, cut-at, space, newline, unsigned, negated, not-negated, number, both, parts, line, with-sample, first-line, text, samples, ring-of-text, printed, program}
+use Rattle.rules.specs.Refusals.{Answer}
+use Rattle.rules.specs.Program.{unbroken, broken, cut-at, space, newline, negated, not-negated, number, both, parts, line, with-sample, first-line, text, samples, ring-of-text, printed, program}
 use Rattle.text.specs.Cuts.{is, first-place-within, cut-found, cut-none}
 use Rattle.text.specs.Digits.{unsigned-long}
 use Rattle.text.specs.Meaning.{Next, bad-line, good-line, before-rest, next-line}
@@ -86,13 +85,17 @@ first x bs = first-place (is x) bs
 
 -- a front that reaches past the byte is cut where the text is
 module _ (x n : ℕ) (bs : List ℕ) where
-  cut-front : first x bs < n → first x bs < length bs → cut-at x (take n bs) ≡ broken (take (first x bs) bs) (take (n - suc (first x bs)) (drop (suc (first x bs)) bs))
+  cut-front : first x bs < n → first x bs < length bs →
+      cut-at x (take n bs) ≡ broken (take (first x bs) bs) (take (n - suc (first x bs)) (drop (suc (first x bs)) bs))
   cut-front h g =
+      let k = suc (first x bs) in
       let e : first-place (is x) (take n bs) ≡ first x bs = first-in-front (is x) n bs h in
-      let j : n ≡ suc (first x bs) + (n - suc (first x bs)) = omega arith in
+      let j : n ≡ k + (n - k) = omega arith in
       cut-found x (take n bs) (omega (arith, length-take n bs))
       ∙ ap₂ broken (rw e (take-take (first x bs) n bs (omega arith)))
-      (rw e (ap (drop (suc (first x bs))) (ap (λ (m : ℕ). take m bs) j ∙ take-add (suc (first x bs)) (n - suc (first x bs)) bs) ∙ drop-at (take (suc (first x bs)) bs) (take (n - suc (first x bs)) (drop (suc (first x bs)) bs)) (suc (first x bs)) (length-take-le (suc (first x bs)) bs (omega arith))))
+      (rw e
+      (ap (drop k) (ap (λ (m : ℕ). take m bs) j ∙ take-add k (n - k) bs)
+      ∙ drop-at (take k bs) (take (n - k) (drop k bs)) k (length-take-le k bs (omega arith))))
 
   -- one that does not is not cut
   uncut-front : n ≤ first x bs → cut-at x (take n bs) ≡ unbroken (take n bs)

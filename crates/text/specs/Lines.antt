@@ -1,7 +1,6 @@
 -- A text read line by line: what the lines read so far gave, and what that says of the whole text.
 -- Assumes nothing.
-use mathlib.Core.Path.{_≡_, refl, sym, ap, subst, _∙_}
-use mathlib.Core.Bool.{Bool, true, false, cond}
+use mathlib.Core.Path.{_≡_, refl, sym, ap, _∙_}
 use mathlib.Core.Option.{Option, none, some}
 use mathlib.Core.List.{List, [], _∷_, _++_, append-assoc, append-nil}
 use Prim.Native.Nat.{ℕ, zero, suc, _+_, _-_, _≤_, _<_}
@@ -14,7 +13,7 @@ use lib.Seq.{drop-cons}
 use Rattle.rules.specs.Streams.{Stream}
 use Rattle.rules.specs.Refusals.{Answer, refused, done}
 use Rattle.rules.specs.Program.{Cut, unbroken, broken, cut-at, newline, line, most-lines, with-sample, first-line, text, samples}
-use Rattle.text.specs.Meaning.{with-room, samples-answer, counted, Next, bad-line, good-line, before-rest, next-line, Fit}
+use Rattle.text.specs.Meaning.{with-room, samples-answer, counted, bad-line, good-line, before-rest, next-line, Fit}
 
 -- what a text's rest gives, after the samples before it
 abbrev pub after : List Stream → Answer (List Stream) → Answer (List Stream)
@@ -108,7 +107,12 @@ module _ {bs : List ℕ} {at count : ℕ} {xs : List Stream} (p : Passed bs at c
         many = length-append xs (s ∷ []) ∙ omega (arith, p .many);
         so-far =
             p .so-far
-            ∙ rw (first-line-at bs at inside, left, text-good (most-lines - (count + 1)) (suc count) (cut-at newline (drop at bs)) s (drop next bs) e, add-one)
+            ∙ rw (
+              first-line-at bs at inside,
+              left,
+              text-good (most-lines - (count + 1)) (suc count) (cut-at newline (drop at bs)) s (drop next bs) e,
+              add-one,
+            )
             (after-sample xs s (suc count) (text (most-lines - suc count) (suc (suc count)) (first-line (drop next bs))));
       }
 
@@ -136,6 +140,27 @@ module _ {bs : List ℕ} {at count : ℕ} {xs all : List Stream} (p : Passed bs 
 
   pub never-bad : at < length bs → next-line (cut-at newline (drop at bs)) ≡ bad-line → ⊥
   never-bad inside e = not-done (sym (passed-bad p inside (more-room inside) e) ∙ good)
+
+-- ---- at most so many samples as lines
+
+text-few : (room i : ℕ) (c : Option Cut) (xs : List Stream) → text room i c ≡ done xs → length xs ≤ room
+unfolding text
+text-few zero i none xs e = let n : xs ≡ [] = cc in omega (arith, ap length n)
+text-few zero i (some c) xs e = absurd (not-done e)
+text-few (suc room) i none xs e = let n : xs ≡ [] = cc in omega (arith, ap length n)
+text-few (suc room) i (some (unbroken l)) xs e = absurd (not-done e)
+text-few (suc room) i (some (broken l rest)) xs e =
+    go (line l) (text room (suc i) (first-line rest)) refl e (text-few room (suc i) (first-line rest))
+  where
+    go : (o : Option Stream) (y : Answer (List Stream)) → text room (suc i) (first-line rest) ≡ y → with-sample o i y ≡ done xs →
+        ((ys : List Stream) → text room (suc i) (first-line rest) ≡ done ys → length ys ≤ room) → length xs ≤ suc room
+    go none y q e f = absurd (not-done e)
+    go (some s) (refused k p) q e f = absurd (not-done e)
+    go (some s) (done ys) q e f = let n : xs ≡ s ∷ ys = cc in omega (arith, ap length n, f ys q)
+
+pub samples-few : (bs : List ℕ) (xs : List Stream) → samples bs ≡ done xs → length xs ≤ most-lines
+unfolding samples
+samples-few bs xs e = text-few most-lines 1 (first-line bs) xs e
 
 -- ---- the outcome, once a text is decided
 
@@ -184,3 +209,14 @@ module _ (bs : List ℕ) (es ns : List ℤ) where
 
     pub fit-count : n ≤ length es → n ≤ length ns → done n ≡ counted (samples-answer bs es ns)
     fit-count l h = decided ∙ sym (ap counted (fit-answer (fit l h)) ∙ ap counted (sym (fit l h .good)))
+
+-- outputs of as many places as a text has lines are never too short
+pub room-for-all : (bs : List ℕ) (es ns : List ℤ) → most-lines ≤ length es → most-lines ≤ length ns → samples-answer bs es ns ≡ samples bs
+unfolding samples-answer
+room-for-all bs es ns l h = go (samples bs) refl
+  where
+    go : (y : Answer (List Stream)) → samples bs ≡ y → with-room es ns y ≡ y
+    go (refused k p) e = refl
+    go (done xs) e =
+        let few = samples-few bs xs e in
+        simp (le-ltb (length es) (length xs) (omega arith), le-ltb (length ns) (length xs) (omega arith)) refl

@@ -1,14 +1,14 @@
 -- How long a printed answer can be: the room that the program gives it.
 -- Assumes nothing.
-use mathlib.Core.Path.{_≡_, refl, sym, ap, _∙_}
+use mathlib.Core.Path.{_≡_, refl}
 use mathlib.Core.Bool.{Bool, true, false, cond, not, _&&_, _||_, true≢false}
 use mathlib.Core.List.{List, [], _∷_, _++_}
 use Prim.Native.Nat.{ℕ, zero, suc, _+_, _*_, _/_, _%_, _^_, _≤_, _<_}
 use native.Mathlib.Nat.{pow-suc, suc-mul}
 use native.Mathlib.Omega.{arith}
-use borrow.Author.Tests.{ltb-true, ltb-false, leb-true}
-use lib.Dec.{ltb, leb}
-use lib.IntN.{ℤ, pos, negsuc, natAbs}
+use borrow.Author.Tests.{ltb-false, leb-true}
+use lib.Dec.{ltb}
+use lib.IntN.{ℤ, pos, negsuc}
 use lib.ListN.{length, length-append}
 use Rattle.rules.specs.Lists.{some-of}
 use Rattle.rules.specs.Streams.{Stream, within, beyond, limit}
@@ -92,7 +92,8 @@ corner-few : (p : Stream) → beyond p ≡ false → length (printed-corner (p .
 unfolding beyond
 corner-few p h = go (within (p .east)) refl (within (p .north)) refl h
   where
-    go : (s : Bool) → within (p .east) ≡ s → (t : Bool) → within (p .north) ≡ t → not (s && t) ≡ false → length (printed-corner (p .east) (p .north)) ≤ 18
+    go : (s : Bool) → within (p .east) ≡ s → (t : Bool) → within (p .north) ≡ t → not (s && t) ≡ false →
+        length (printed-corner (p .east) (p .north)) ≤ 18
     go true e true f h = omega (arith, corner-length (p .east) (p .north), whole-few (p .east) e, whole-few (p .north) f)
     go true e false f h = absurd (true≢false h)
     go false e t f h = absurd (true≢false h)

@@ -1,11 +1,10 @@
 -- Samples written to two outputs as the lines of a good text are read: the front of each output holds the parts of the samples so far.
 -- Assumes nothing.
-use mathlib.Core.Path.{_≡_, refl, sym, ap, subst, _∙_}
+use mathlib.Core.Path.{_≡_, refl, sym, ap, _∙_}
 use mathlib.Core.List.{List, [], _∷_, _++_, map, map-append, append-assoc}
-use Prim.Native.Nat.{ℕ, suc, _+_, _-_, _≤_, _<_}
-use native.Mathlib.Numerals.{add-one}
+use Prim.Native.Nat.{ℕ, suc, _+_, _≤_, _<_}
 use native.Mathlib.Omega.{arith}
-use lib.IntN.{ℤ, pos}
+use lib.IntN.{ℤ}
 use lib.ListN.{length, getD, drop, set, length-append, length-drop, length-map}
 use lib.Seq.{drop-cons, set-at}
 use Rattle.rules.specs.Lists.{written}
@@ -13,12 +12,13 @@ use Rattle.rules.specs.Streams.{Stream, stream}
 use Rattle.rules.specs.Refusals.{output-after}
 use Rattle.rules.specs.Entries.{easts, norths}
 use Rattle.rules.specs.Program.{cut-at, newline}
-use Rattle.text.specs.Meaning.{samples-answer, next-line, bad-line, good-line, Fit}
+use Rattle.text.specs.Meaning.{samples-answer, next-line, good-line, Fit}
 use Rattle.text.specs.Lines.{Passed, passed-none, passed-more, passed-all, count-within, more-room, fit-answer}
 
 module _ {A : Type 0} where
   -- one more item, after the result so far
-  pub written-more : (result old : List A) (n : ℕ) (x : A) → length result ≡ n → n < length old → set (written result old) n x ≡ written (result ++ (x ∷ [])) old
+  pub written-more : (result old : List A) (n : ℕ) (x : A) → length result ≡ n → n < length old →
+      set (written result old) n x ≡ written (result ++ (x ∷ [])) old
   written-more result old n x e h =
       let l : length (result ++ (x ∷ [])) ≡ suc n = length-append result (x ∷ []) ∙ omega arith in
       rw (l, e, drop-cons old n x h, append-assoc result (x ∷ []) (drop (suc n) old)) (set-at result (getD old n x) (drop (suc n) old) x n e)
@@ -68,17 +68,23 @@ module _ {bs : List ℕ} {es₀ ns₀ : List ℤ} {at count : ℕ} {es ns : List
   north-after h = w .north-is ∙ rw (fit-answer bs es₀ ns₀ f) (ap (λ (xs : List Stream). written (norths xs) ns₀) (same-all h))
 
   -- one more line
-  module _ (inside : at < length bs) (e n : ℤ) (next : ℕ) (good : next-line (cut-at newline (drop at bs)) ≡ good-line (stream e n) (drop next bs)) (within : next ≤ length bs) where
-    further : Passed bs next (count + 1) (w .so-far ++ (stream e n ∷ []))
-    further = passed-more (w .passed) inside (more-room (w .passed) (f .good) inside) (stream e n) next good within
+  module _
+      (inside : at < length bs)
+      (e n : ℤ)
+      (next : ℕ)
+      (good : next-line (cut-at newline (drop at bs)) ≡ good-line (stream e n) (drop next bs))
+      (within : next ≤ length bs)
+    where
+      further : Passed bs next (count + 1) (w .so-far ++ (stream e n ∷ []))
+      further = passed-more (w .passed) inside (more-room (w .passed) (f .good) inside) (stream e n) next good within
 
-    pub room : count < length (f .all)
-    room = omega (arith, count-within further (f .good))
+      pub room : count < length (f .all)
+      room = omega (arith, count-within further (f .good))
 
-    pub writing-more : Writing bs es₀ ns₀ next (count + 1) (set es count e) (set ns count n)
-    writing-more = record {
-      so-far = w .so-far ++ (stream e n ∷ []);
-      passed = further;
-      east-is = part-more (λ s. s .east) (w .so-far) es₀ es (w .east-is) (stream e n) count (w .passed .many) (omega (arith, room, f .east-room));
-      north-is = part-more (λ s. s .north) (w .so-far) ns₀ ns (w .north-is) (stream e n) count (w .passed .many) (omega (arith, room, f .north-room));
-    }
+      pub writing-more : Writing bs es₀ ns₀ next (count + 1) (set es count e) (set ns count n)
+      writing-more = record {
+        so-far = w .so-far ++ (stream e n ∷ []);
+        passed = further;
+        east-is = part-more (λ s. s .east) (w .so-far) es₀ es (w .east-is) (stream e n) count (w .passed .many) (omega (arith, room, f .east-room));
+        north-is = part-more (λ s. s .north) (w .so-far) ns₀ ns (w .north-is) (stream e n) count (w .passed .many) (omega (arith, room, f .north-room));
+      }

@@ -54,7 +54,7 @@ enum Found {
     Bad,
 }
 
-// The samples of a text at the front of the two outputs. A refusal alters neither.
+// The samples of a text at the front of the two outputs. The whole text is decided before anything is written, so that a refusal alters neither.
 pub fn samples(text: &[u8], east: &mut [i32], north: &mut [i32]) -> Read
     ensures answer { λ r. ⌜ read-as r ≡ counted (samples-answer (now (text .entry)) (now (east .entry)) (now (north .entry))) ⌝ }
     ensures east { λ _. ⌜ now (east .exit) ≡ output-after easts (samples-answer (now (text .entry)) (now (east .entry)) (now (north .entry))) (now (east .entry)) ⌝ }
@@ -114,7 +114,7 @@ fn decide(text: &[u8]) -> Read
     Read::Samples(count)
 }
 
-// The samples of a text that is good, written.
+// The samples of a good text, written. Such a text has no bad line.
 fn write(text: &[u8], east: &mut [i32], north: &mut [i32])
     requires { ⌜ Fit (now text) (now east) (now north) ⌝ }
     ensures east { λ _. ⌜ now (east .exit) ≡ output-after easts (samples-answer (now (text .entry)) (now (east .entry)) (now (north .entry))) (now (east .entry)) ⌝ }
@@ -264,7 +264,7 @@ fn read_digits(s: &[u8]) -> Unsigned
     Unsigned::Natural(n)
 }
 
-// The first place from one on that has the byte, or the length.
+// The first place from `from` on that has the byte; the length where none has.
 fn place_of(s: &[u8], from: usize, b: u8) -> usize
     requires { ⌜ from ≤ length (now s) ⌝ }
     ensures { λ r. ⌜ r ≡ from + first-place (is b) (drop from (now (s .entry))) ⌝ }

@@ -26,8 +26,10 @@ fn stays(
     top: usize,
     s: Stream,
 ) -> bool
-    requires { ⌜ Rings (now east) (now north) (now east2) (now north2) × Stand (count (now east) (now east2)) (now w) top × Near (stream-of s) ⌝ }
-    ensures { λ r. ⌜ r ≡ stays (listed-at (now (east .entry)) (now (north .entry)) (now (east2 .entry)) (now (north2 .entry)) up (now (w .entry))) top (stream-of s) ⌝ }
+    requires { ⌜ Rings (now east) (now north) (now east2) (now north2) × Stand (count (now east) (now east2)) (now w) top
+        × Near (stream-of s) ⌝ }
+    ensures { λ r. ⌜ r ≡ stays (listed-at (now (east .entry)) (now (north .entry)) (now (east2 .entry)) (now (north2 .entry)) up (now (w .entry)))
+        top (stream-of s) ⌝ }
 {
     if top == 0 {
         return true;
@@ -51,8 +53,10 @@ fn settled(
     top: usize,
     s: Stream,
 ) -> usize
-    requires { ⌜ Rings (now east) (now north) (now east2) (now north2) × Stand (count (now east) (now east2)) (now w) top × Near (stream-of s) × Coming (listed-at (now east) (now north) (now east2) (now north2) up (now w)) top (stream-of s) ⌝ }
-    ensures { λ r. ⌜ Settled (listed-at (now (east .entry)) (now (north .entry)) (now (east2 .entry)) (now (north2 .entry)) up (now (w .entry))) top (stream-of s) r ⌝ }
+    requires { ⌜ Rings (now east) (now north) (now east2) (now north2) × Stand (count (now east) (now east2)) (now w) top × Near (stream-of s)
+        × Coming (listed-at (now east) (now north) (now east2) (now north2) up (now w)) top (stream-of s) ⌝ }
+    ensures { λ r. ⌜ Settled (listed-at (now (east .entry)) (now (north .entry)) (now (east2 .entry)) (now (north2 .entry)) up (now (w .entry)))
+        top (stream-of s) r ⌝ }
 {
     let mut t = top;
     while !stays(east, north, east2, north2, up, w, t, s) {
@@ -72,8 +76,10 @@ fn hides(
     top: usize,
     s: Stream,
 ) -> bool
-    requires { ⌜ Rings (now east) (now north) (now east2) (now north2) × Stand (count (now east) (now east2)) (now w) top × Next (listed-at (now east) (now north) (now east2) (now north2) up (now w)) top (stream-of s) ⌝ }
-    ensures { λ r. ⌜ Hides (listed-at (now (east .entry)) (now (north .entry)) (now (east2 .entry)) (now (north2 .entry)) up (now (w .entry))) top (stream-of s) r ⌝ }
+    requires { ⌜ Rings (now east) (now north) (now east2) (now north2) × Stand (count (now east) (now east2)) (now w) top
+        × Next (listed-at (now east) (now north) (now east2) (now north2) up (now w)) top (stream-of s) ⌝ }
+    ensures { λ r. ⌜ Hides (listed-at (now (east .entry)) (now (north .entry)) (now (east2 .entry)) (now (north2 .entry)) up (now (w .entry)))
+        top (stream-of s) r ⌝ }
 {
     if top == 0 {
         return false;
@@ -96,8 +102,11 @@ fn taken(
     top: usize,
     k: usize,
 ) -> usize
-    requires { ⌜ Rings (now east) (now north) (now east2) (now north2) × (k < count (now east) (now east2)) × Stand (count (now east) (now east2)) (now w) top × (top < length (now w)) × Next (listed-at (now east) (now north) (now east2) (now north2) up (now w)) top (corner-at (now east) (now north) (now east2) (now north2) up k) ⌝ }
-    ensures { λ r. ⌜ Taken (now (east .entry)) (now (north .entry)) (now (east2 .entry)) (now (north2 .entry)) up (now (w .entry)) top k (now (w .exit)) r ⌝ }
+    requires { ⌜ Rings (now east) (now north) (now east2) (now north2) × (k < count (now east) (now east2))
+        × Stand (count (now east) (now east2)) (now w) top × (top < length (now w))
+        × Next (listed-at (now east) (now north) (now east2) (now north2) up (now w)) top (corner-at (now east) (now north) (now east2) (now north2) up k) ⌝ }
+    ensures { λ r. ⌜ Taken (now (east .entry)) (now (north .entry)) (now (east2 .entry)) (now (north2 .entry)) up
+        (now (w .entry)) top k (now (w .exit)) r ⌝ }
 {
     let s = seen(east, north, east2, north2, up, k);
     if hides(east, north, east2, north2, up, w, top, s) {

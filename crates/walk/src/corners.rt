@@ -84,7 +84,8 @@ pub fn listed(
     w: &[u32],
     i: usize,
 ) -> Stream
-    requires { ⌜ Rings (now east) (now north) (now east2) (now north2) × (i < length (now w)) × (getD (now w) i 0 < count (now east) (now east2)) ⌝ }
+    requires { ⌜ Rings (now east) (now north) (now east2) (now north2) × (i < length (now w))
+        × (getD (now w) i 0 < count (now east) (now east2)) ⌝ }
     ensures { λ r. ⌜ stream-of r ≡ listed-at (now (east .entry)) (now (north .entry)) (now (east2 .entry)) (now (north2 .entry)) up (now (w .entry)) i ⌝ }
 {
     seen(east, north, east2, north2, up, w[i] as usize)

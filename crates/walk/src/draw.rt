@@ -94,7 +94,8 @@ pub fn draw(
     d: usize,
 ) -> Left
     requires { ⌜ Rings (now east) (now north) (now east2) (now north2) × Spans (now east) (now north) (now east2) (now north2) a b c d ⌝ }
-    ensures { λ r. ⌜ Drawn (now (east .entry)) (now (north .entry)) (now (east2 .entry)) (now (north2 .entry)) a b c d (r .place) (r .a) (r .b) (r .c) (r .d) ⌝ }
+    ensures { λ r. ⌜ Drawn (now (east .entry)) (now (north .entry)) (now (east2 .entry)) (now (north2 .entry)) a b c d
+        (r .place) (r .a) (r .b) (r .c) (r .d) ⌝ }
 {
     if a == b {
         return from_second(west_end(east, north, east2, north2, c, d), a, b, c, d);

@@ -20,10 +20,9 @@ returns : tie.Need-returns
 returns c =
     let a = c .before .before .before .before .before .args in
     let v = sym (c .before .before .before .test-ring .ensures) ∙ ap tested-as (c .before .number .given .1) in
-    let o = outcome-refused (c .before .number .given .0 .0) (c .before .number .given .0 .1 .0)
+    outcome-refused (c .before .number .given .0 .0) (c .before .number .given .0 .1 .0)
     (first-refused (now (a .east)) (now (a .north)) (now (a .east2)) (now (a .north2)) (now (a .out-east)) (now (a .out-north)) (now (a .scratch)) v)
-    (verdict-number (now (a .east)) (now (a .north)) v) in
-    (o .says, (o .east-after, (o .north-after, o .scratch-is)))
+    (verdict-number (now (a .east)) (now (a .north)) v)
 
 -- the first ring passed, and the second
 first : (c : tie.After-enum-told) → let a = c .before .before .before .before .args in ring-verdict (now (a .east)) (now (a .north)) ≡ done tt
@@ -37,26 +36,23 @@ returns-2 : tie.Need-returns-2
 returns-2 c =
     let a = c .before .before .before .before .before .before .before .before .args in
     let v = sym (c .before .before .before .test-ring2 .ensures) ∙ ap tested-as (c .before .number2 .given .1) in
-    let o = outcome-refused (c .before .number2 .given .0 .0) (c .before .number2 .given .0 .1 .0)
+    outcome-refused (c .before .number2 .given .0 .0) (c .before .number2 .given .0 .1 .0)
     (second-refused (now (a .east)) (now (a .north)) (now (a .east2)) (now (a .north2)) (now (a .out-east)) (now (a .out-north)) (now (a .scratch)) (first (c .before .before .before .before)) v)
-    (verdict-number (now (a .east2)) (now (a .north2)) v) in
-    (o .says, (o .east-after, (o .north-after, o .scratch-is)))
+    (verdict-number (now (a .east2)) (now (a .north2)) v)
 
 returns-3 : tie.Need-returns-3
 returns-3 c =
     let at = c .before in
     let a = at .before .before .before .before .before .before .before .args in
-    let o = outcome-refused 2 0
-    (many-refused (now (a .east)) (now (a .north)) (now (a .east2)) (now (a .north2)) (now (a .out-east)) (now (a .out-north)) (now (a .scratch)) (first (at .before .before .before)) (second at) (c .if1 .taken)) refl in
-    (o .says, (o .east-after, (o .north-after, o .scratch-is)))
+    outcome-refused 2 0
+    (many-refused (now (a .east)) (now (a .north)) (now (a .east2)) (now (a .north2)) (now (a .out-east)) (now (a .out-north)) (now (a .scratch)) (first (at .before .before .before)) (second at) (c .if1 .taken)) refl
 
 returns-4 : tie.Need-returns-4
 returns-4 c =
     let at = c .before .before in
     let a = at .before .before .before .before .before .before .before .args in
-    let o = outcome-refused 4 0
-    (scratch-refused (now (a .east)) (now (a .north)) (now (a .east2)) (now (a .north2)) (now (a .out-east)) (now (a .out-north)) (now (a .scratch)) (first (at .before .before .before)) (second at) (c .before .if1 .left) (c .if2 .taken)) refl in
-    (o .says, (o .east-after, (o .north-after, o .scratch-is)))
+    outcome-refused 4 0
+    (scratch-refused (now (a .east)) (now (a .north)) (now (a .east2)) (now (a .north2)) (now (a .out-east)) (now (a .out-north)) (now (a .scratch)) (first (at .before .before .before)) (second at) (c .before .if1 .left) (c .if2 .taken)) refl
 
 write-join-requires : tie.Need-write-join-requires
 write-join-requires c κs =
@@ -72,11 +68,10 @@ returns-5 c =
     let w = c .before .before .before .before .write-join in
     let at = c .before .before .before .before .before .before .before .before .before .before in
     let a = at .before .before .before .before .before .before .before .args in
-    let o = subst (λ (answer : Answer (List Stream)). Outcome answer (w .result) (now (a .out-east)) (w .last .1 .1 .1 .1 .0) (now (a .out-north))
+    subst (λ (answer : Answer (List Stream)). Outcome answer (w .result) (now (a .out-east)) (w .last .1 .1 .1 .1 .0) (now (a .out-north))
     (w .last .1 .1 .1 .1 .1 .0) (now (a .scratch)) (w .last .1 .1 .1 .1 .1 .1 .0))
     (sym (all-pass (now (a .east)) (now (a .north)) (now (a .east2)) (now (a .north2)) (now (a .out-east)) (now (a .out-north)) (now (a .scratch)) (first (at .before .before .before)) (second at) (c .before .before .before .before .before .before .before .before .before .if1 .left) (c .before .before .before .before .before .before .before .before .if2 .left)))
-    (w .ensures) in
-    (o .says, (o .east-after, (o .north-after, o .scratch-is)))
+    (w .ensures)
 
 pub join-spec : {M : Type 1} → statement M
 join-spec =

@@ -3,14 +3,13 @@
 use mathlib.Core.Path.{_≡_, sym, ap, ap₂, _∙_, subst}
 use mathlib.Core.Bool.{Bool, _&&_}
 use Prim.Native.Nat.{_-_}
-use native.Mathlib.Omega.{arith}
 use borrow.Author.Needs.{needs}
 use lib.Signed.{leZ}
-use Rattle.rules.specs.Streams.{sample}
 use Rattle.rules.specs.Entries.{record-corners}
 use Rattle.neighbours.specs.Test.{closes}
 use Rattle.ringside.specs.Meaning.{stream-of, Near}
 use Rattle.ringside.specs.Words.{held}
+use Rattle.reader.specs.Meaning.{closes-at}
 use Rattle.reader.proofs.closes.Statement.{statement}
 use Rattle.reader.proofs.closes.Tie as tie
 
@@ -30,7 +29,7 @@ read-as : (c : tie.After-corner3) →
     let xs = record-corners (c .before .before .before .before .args .bytes .now) in
     let n = c .before .before .before .before .args .n in
     closes (stream-of (c .before .before .corner .result)) (stream-of (c .before .corner2 .result)) (stream-of (c .corner3 .result))
-    ≡ closes (sample xs (n - 2)) (sample xs (n - 1)) (sample xs 0)
+    ≡ closes-at xs n
 read-as c = λ k. closes (c .before .before .corner .ensures k) (c .before .corner2 .ensures k) (c .corner3 .ensures k)
 
 returns : tie.Need-returns

@@ -1,6 +1,6 @@
 -- `reader::corner` meets its contract: the corner's eight bytes lie inside the record.
 -- Assumes nothing.
-use mathlib.Core.Path.{_≡_, refl, sym, ap, ap₂, _∙_}
+use mathlib.Core.Path.{sym, ap, ap₂, _∙_}
 use Prim.Native.Nat.{_+_, _*_, _≤_}
 use native.Mathlib.Omega.{arith}
 use borrow.Author.Needs.{needs}
@@ -19,8 +19,10 @@ inside s = omega (arith, s .pre, record-count (s .args .bytes .now))
 returns : tie.Need-returns
 returns c =
     let s = c .before .before .before .before .before in
-    let east = cast-read w32 (c .before .before .part .result) (c .before .before .part .ok) .same ∙ c .before .before .part .ensures ∙ ap twos (c .before .before .before .word .ensures) in
-    let north = cast-read w32 (c .part2 .result) (c .part2 .ok) .same ∙ c .part2 .ensures ∙ ap twos (c .before .word2 .ensures) in
+    let e = c .before .before .part in
+    let n = c .part2 in
+    let east = cast-read w32 (e .result) (e .ok) .same ∙ e .ensures ∙ ap twos (c .before .before .before .word .ensures) in
+    let north = cast-read w32 (n .result) (n .ok) .same ∙ n .ensures ∙ ap twos (c .before .word2 .ensures) in
     ap₂ stream east north ∙ sym (record-sample (s .args .bytes .now) (s .args .i) (s .pre))
 
 pub corner-spec : {M : Type 1} → statement M

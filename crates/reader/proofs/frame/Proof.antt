@@ -1,7 +1,6 @@
 -- `reader::frame` meets its contract: each return is the rules' tests in the order in which the code makes them.
 -- Assumes nothing.
 use mathlib.Core.Path.{_≡_, refl, sym, ap, _∙_}
-use native.Mathlib.Omega.{arith}
 use borrow.Author.Needs.{needs}
 use borrow.Author.Tests.{lt-ltb, le-ltb, eq-eqb, ne-eqb}
 use mathlib.Core.Bool.{true, false, cond}
@@ -45,7 +44,8 @@ before-length c =
 long-enough : (c : tie.Else3) → let bs = c .before .before .before .before .before .args .bytes .now in ltb (length bs) 5 ≡ false
 long-enough c = le-ltb (length (c .before .before .before .before .before .args .bytes .now)) 5 (c .if3 .left)
 
-whole-corners : (c : tie.Else4) → let bs = c .before .before .before .before .before .before .before .args .bytes .now in eqb (said-length bs % 8) 0 ≡ true
+whole-corners : (c : tie.Else4) →
+    let bs = c .before .before .before .before .before .before .before .args .bytes .now in eqb (said-length bs % 8) 0 ≡ true
 whole-corners c =
     let bs = c .before .before .before .before .before .before .before .args .bytes .now in
     eq-eqb (said-length bs % 8) 0 (ap (λ (n : ℕ). n % 8) (sym (c .before .word .ensures)) ∙ c .if4 .left)

@@ -13,7 +13,7 @@ use Rattle.rules.specs.Use.{envelope}
 use Rattle.rules.specs.Refusals.{done}
 use Rattle.rules.specs.Entries.{record-corners}
 use Rattle.ringside.specs.Samples.{sample-near}
-use Rattle.reader.specs.Meaning.{frame-number, Passed, Room}
+use Rattle.reader.specs.Meaning.{frame-number}
 use Rattle.reader.specs.Corners.{record-count}
 use Rattle.reader.specs.Outcome.{refused-frame, refused-2, refused-3, refused-9, east-short, north-short, answered, long-enough, none-beyond}
 use Rattle.reader.proofs.read_record.Statement.{statement}
@@ -40,19 +40,24 @@ is c = sym (c .before .is-envelope .ensures) ∙ not-false (c .before .is-envelo
 returns : tie.Need-returns
 returns c =
     let a = c .before .before .before .args in
-    rw (refused-frame (a .bytes .now) (a .east .now) (a .north .now) (c .before .frame .result) (c .before .frame .ensures) (c .if1 .taken)) (refl, (refl, refl))
+    let f = c .before .frame in
+    rw (refused-frame (a .bytes .now) (a .east .now) (a .north .now) (f .result) (f .ensures) (c .if1 .taken)) (refl, (refl, refl))
 
 returns-2 : tie.Need-returns-2
 returns-2 c =
     let a = c .before .before .before .before .args in
-    rw (refused-2 (a .bytes .now) (a .east .now) (a .north .now) (framed (c .before)) (omega (arith, record-count (a .bytes .now), c .if2 .taken))) (refl, (refl, refl))
+    rw
+    (refused-2 (a .bytes .now) (a .east .now) (a .north .now) (framed (c .before)) (omega (arith, record-count (a .bytes .now), c .if2 .taken)))
+    (refl, (refl, refl))
 
 returns-3 : tie.Need-returns-3
 returns-3 c =
     let f = c .before .before in
     let a = f .before .before .before .before .args in
     rw
-    (refused-3 (a .bytes .now) (a .east .now) (a .north .now) (framed (f .before)) (few f) (c .before .first-beyond .result) (c .before .first-beyond .ensures)
+    (refused-3 (a .bytes .now) (a .east .now) (a .north .now) (framed (f .before)) (few f)
+    (c .before .first-beyond .result)
+    (c .before .first-beyond .ensures)
     (omega (arith, record-count (a .bytes .now), c .if3 .taken)))
     (refl, (refl, refl))
 
@@ -78,7 +83,8 @@ returns-5 c =
     let f = n .before .before in
     let a = f .before .before .before .before .args in
     rw
-    (east-short (a .bytes .now) (a .east .now) (a .north .now) (framed (f .before)) (few f) (near n) (is e) (omega (arith, record-count (a .bytes .now), c .if5 .taken)))
+    (east-short (a .bytes .now) (a .east .now) (a .north .now) (framed (f .before)) (few f) (near n) (is e)
+    (omega (arith, record-count (a .bytes .now), c .if5 .taken)))
     (refl, (refl, refl))
 
 returns-6 : tie.Need-returns-6

@@ -1,16 +1,15 @@
 -- `reader::turns` meets its contract.
 -- Assumes nothing.
 use mathlib.Core.Path.{_≡_, sym, ap, ap₂, _∙_, subst}
-use mathlib.Core.Bool.{Bool, true, _&&_, _||_}
+use mathlib.Core.Bool.{Bool, _&&_, _||_}
 use Prim.Native.Nat.{_-_}
-use native.Mathlib.Omega.{arith}
 use borrow.Author.Needs.{needs}
 use lib.Signed.{ltZ}
-use Rattle.rules.specs.Streams.{sample}
 use Rattle.rules.specs.Entries.{record-corners}
 use Rattle.neighbours.specs.Test.{turns}
 use Rattle.ringside.specs.Meaning.{stream-of, Near}
 use Rattle.ringside.specs.Words.{held}
+use Rattle.reader.specs.Meaning.{turns-at}
 use Rattle.reader.proofs.turns.Statement.{statement}
 use Rattle.reader.proofs.turns.Tie as tie
 
@@ -30,7 +29,7 @@ read-as : (c : tie.After-corner3) →
     let xs = record-corners (c .before .before .before .before .args .bytes .now) in
     let i = c .before .before .before .before .args .i in
     turns (stream-of (c .before .before .corner .result)) (stream-of (c .before .corner2 .result)) (stream-of (c .corner3 .result))
-    ≡ turns (sample xs (i - 2)) (sample xs (i - 1)) (sample xs i)
+    ≡ turns-at xs i
 read-as c = λ k. turns (c .before .before .corner .ensures k) (c .before .corner2 .ensures k) (c .corner3 .ensures k)
 
 returns : tie.Need-returns

@@ -1,8 +1,8 @@
 -- `reader::write` meets its contract. The loop's invariant: the front of each output holds the parts of the first corners.
 -- Assumes nothing.
-use mathlib.Core.Path.{_≡_, refl, sym, ap, ap₂, _∙_}
+use mathlib.Core.Path.{_≡_, refl, ap, ap₂, _∙_}
 use mathlib.Core.List.{List}
-use Prim.Native.Nat.{_+_, _-_, _≤_, _<_}
+use Prim.Native.Nat.{_-_, _≤_, _<_}
 use native.Mathlib.Omega.{arith}
 use mir.Syntax.{w32}
 use lib.IntN.{ℤ}
@@ -31,13 +31,17 @@ east-length : (l : tie.At-loop Inv-loop μ-loop) → length (l .loop .east) ≡ 
 east-length l =
     let s = l .before .before in
     ap length (l .loop .inv .1)
-    ∙ parts-length (λ p. p .east) (record-corners (s .args .bytes .now)) (s .args .east .now) (l .loop .i) (omega (arith, s .pre .count, l .loop .inv .0)) (omega (arith, s .pre .count, s .pre .east-room))
+    ∙ parts-length (λ p. p .east) (record-corners (s .args .bytes .now)) (s .args .east .now) (l .loop .i)
+    (omega (arith, s .pre .count, l .loop .inv .0))
+    (omega (arith, s .pre .count, s .pre .east-room))
 
 north-length : (l : tie.At-loop Inv-loop μ-loop) → length (l .loop .north) ≡ length (l .before .before .args .north .now)
 north-length l =
     let s = l .before .before in
     ap length (l .loop .inv .2)
-    ∙ parts-length (λ p. p .north) (record-corners (s .args .bytes .now)) (s .args .north .now) (l .loop .i) (omega (arith, s .pre .count, l .loop .inv .0)) (omega (arith, s .pre .count, s .pre .north-room))
+    ∙ parts-length (λ p. p .north) (record-corners (s .args .bytes .now)) (s .args .north .now) (l .loop .i)
+    (omega (arith, s .pre .count, l .loop .inv .0))
+    (omega (arith, s .pre .count, s .pre .north-room))
 
 -- there is room at place i
 fits : (c : tie.After-struct-told2 Inv-loop μ-loop) →

@@ -22,17 +22,17 @@ answered c =
 
 -- an answer's face, from what the answer counts
 face : (c : lts.After-join (entry.Asked, entry.Learnt) reads.Pre reads.Post) {r : Joined} → c .join .result ≡ r → count-face (joined-as r) ≡ counted-face (answered c)
-face c e = ap (λ (r : Joined). count-face (joined-as r)) (sym e) ∙ ap count-face (c .join .ensures .0) ∙ counted-is (answered c)
+face c e = ap (λ (r : Joined). count-face (joined-as r)) (sym e) ∙ ap count-face (c .join .ensures .says) ∙ counted-is (answered c)
 
 returns : tie.Need-returns
 returns c =
     let said = c .before .before .before .before .before .before .before in
-    (face said (c .before .count .given .1), said .join .ensures .1)
+    (face said (c .before .count .given .1), (said .join .ensures .east-after, (said .join .ensures .north-after, said .join .ensures .scratch-is)))
 
 returns-2 : tie.Need-returns-2
 returns-2 c =
     let said = c .before .before .before .before .before .before .before in
-    (face said (c .before .number .given .1), said .join .ensures .1)
+    (face said (c .before .number .given .1), (said .join .ensures .east-after, (said .join .ensures .north-after, said .join .ensures .scratch-is)))
 
 pub nuoskelma-join-spec : {M : Type 1} → statement M
 nuoskelma-join-spec =

@@ -9,7 +9,7 @@ use lib.ListN.{length}
 use Rattle.rules.specs.Streams.{Stream, streams}
 use Rattle.rules.specs.Refusals.{done}
 use Rattle.rules.specs.Program.{printed-natural, printed-corners, printed}
-use Rattle.text.specs.Placed.{Put, then, put-length, at-front}
+use Rattle.text.specs.Placed.{then, put-length, at-front}
 use Rattle.text.specs.Corners.{ring-length, streams-length}
 use Rattle.text.proofs.printing.print_ring.Statement.{statement}
 use Rattle.text.proofs.printing.print_ring.Tie as tie

@@ -1,6 +1,5 @@
 -- `text::printing::put_corner` meets its contract: its four runs are the corner's line.
 -- Assumes nothing.
-use mathlib.Core.Path.{_≡_, refl, sym, ap, subst, _∙_}
 use native.Mathlib.Omega.{arith}
 use borrow.Author.Needs.{needs}
 use Rattle.whole.specs.Fits.{cast}
@@ -18,7 +17,8 @@ east-put c = rw (cast (c .before .before .before .fits .east) .same) at (c .put-
 
 north-put : (c : tie.After-put-whole2) →
     let p = c .before .before .before .before in
-    Put (printed-whole (p .before .before .before .before .before .before .before .args .north)) (p .put-byte .result) (p .put-byte .last .1 .0) (c .put-whole2 .last .1 .0) (c .put-whole2 .result)
+    let s = p .before .before .before .before .before .before .before in
+    Put (printed-whole (s .args .north)) (p .put-byte .result) (p .put-byte .last .1 .0) (c .put-whole2 .last .1 .0) (c .put-whole2 .result)
 north-put c =
     let s = c .before .before .before .before .before .before .before .before .before .before .before in
     rw (cast (s .fits .north) .same) at (c .put-whole2 .ensures)

@@ -1,14 +1,14 @@
 -- `text::printing::put_corners` meets its contract. The loop's invariant: the lines of the first corners are put.
 -- Assumes nothing.
 use mathlib.Core.Path.{_≡_, ap₂}
-use Prim.Native.Nat.{ℕ, _+_, _-_, _≤_}
+use Prim.Native.Nat.{_-_, _≤_}
 use native.Mathlib.Omega.{arith}
 use lib.IntN.{pos}
 use lib.ListN.{length, getD}
 use mir.Syntax.{w32}
 use mir.Val.{toZ, ofZ}
 use Rattle.whole.specs.Fits.{cast-read}
-use Rattle.text.specs.Placed.{Put, put-length}
+use Rattle.text.specs.Placed.{put-length}
 use Rattle.text.specs.Corners.{printed-corner, Lines, lines-none, lines-more, lines-all, line-room}
 use Rattle.text.proofs.printing.put_corners.Statement.{statement}
 use Rattle.text.proofs.printing.put_corners.Tie as tie

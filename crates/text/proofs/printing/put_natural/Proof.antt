@@ -1,10 +1,8 @@
 -- `text::printing::put_natural` meets its contract. The loop's invariant: the digits after those of the number that is left are put.
 -- Assumes nothing.
-use mathlib.Core.Path.{_≡_, refl, sym, ap, subst, _∙_}
-use Prim.Native.Nat.{ℕ, _+_, _-_, _≤_}
+use mathlib.Core.Path.{_∙_}
 use native.Mathlib.Omega.{arith}
-use lib.ListN.{length, length-set}
-use Rattle.rules.specs.Program.{printed-natural}
+use lib.ListN.{length-set}
 use Rattle.text.specs.Naturals.{Printing, printing-all, printing-more, printing-end, printing-inside, printing-above, printing-length, left-all, left-some}
 use Rattle.text.proofs.printing.put_natural.Statement.{statement}
 use Rattle.text.proofs.printing.put_natural.Tie as tie

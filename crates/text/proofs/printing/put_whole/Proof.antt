@@ -1,16 +1,14 @@
 -- `text::printing::put_whole` meets its contract: a minus where the number is below 0, then its magnitude.
 -- Assumes nothing.
-use mathlib.Core.Path.{_≡_, refl, sym, ap, subst, _∙_}
-use mathlib.Core.Bool.{true, false}
+use mathlib.Core.Path.{_≡_, ap, _∙_}
 use mathlib.Core.List.{_∷_}
 use native.Mathlib.Omega.{arith}
 use borrow.Author.Needs.{needs}
-use lib.IntN.{ℤ, pos, natAbs}
-use lib.Signed.{ltZ}
+use lib.IntN.{natAbs}
 use lib.ListN.{length}
 use Rattle.whole.specs.Fits.{cast}
 use Rattle.rules.specs.Program.{minus, printed-natural, printed-whole}
-use Rattle.text.specs.Placed.{Put, then, put-length}
+use Rattle.text.specs.Placed.{then, put-length}
 use Rattle.text.specs.Corners.{whole-negative, whole-other}
 use Rattle.text.proofs.printing.put_whole.Statement.{statement}
 use Rattle.text.proofs.printing.put_whole.Tie as tie

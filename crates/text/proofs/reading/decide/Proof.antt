@@ -1,11 +1,11 @@
 -- `text::reading::decide` meets its contract. The loop's invariant: so many lines, up to the place, gave so many samples.
 -- Assumes nothing.
-use mathlib.Core.Path.{_≡_, refl, sym, ap, subst, _∙_}
+use mathlib.Core.Path.{sym, ap, _∙_}
 use mathlib.Core.List.{List, [], _∷_, _++_}
-use Prim.Native.Nat.{_+_, _-_}
+use Prim.Native.Nat.{_-_}
 use native.Mathlib.Omega.{arith}
 use borrow.Author.Needs.{needs}
-use lib.ListN.{length, drop}
+use lib.ListN.{length}
 use Rattle.rules.specs.Streams.{Stream, stream}
 use Rattle.rules.specs.Refusals.{done}
 use Rattle.text.specs.declared.reading.Found.{Found}

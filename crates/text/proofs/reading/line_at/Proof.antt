@@ -1,7 +1,7 @@
 -- `text::reading::line_at` meets its contract: the text is cut at its first newline from the place on, if it has one.
 -- Assumes nothing.
-use mathlib.Core.Path.{_≡_, refl, sym, ap, ap₂, _∙_}
-use Prim.Native.Nat.{_+_, _≤_, _<_}
+use mathlib.Core.Path.{_≡_, sym, ap, _∙_}
+use Prim.Native.Nat.{_+_, _<_}
 use native.Mathlib.Omega.{arith}
 use borrow.Author.Needs.{needs}
 use mir.Syntax.{w32}
@@ -19,7 +19,9 @@ returns : tie.Need-returns
 returns c =
     let a = c .before .before .before .args in
     record {
-      line = sym (ap next-line (cut-nowhere newline (a .text .now) (a .at) (c .before .place-of .result) (c .before .place-of .ensures) (omega arith) (omega arith)));
+      line =
+          let end = c .before .place-of in
+          sym (ap next-line (cut-nowhere newline (a .text .now) (a .at) (end .result) (end .ensures) (omega arith) (omega arith)));
       further = tt;
     }
 

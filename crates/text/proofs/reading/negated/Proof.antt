@@ -1,16 +1,16 @@
 -- `text::reading::negated` meets its contract: the number fits, and so does its negation.
 -- Assumes nothing.
 use mathlib.Core.Path.{_≡_, refl, sym, ap, subst, _∙_}
-use mathlib.Core.Option.{Option, some}
+use mathlib.Core.Option.{some}
 use Prim.Native.Nat.{ℕ, zero, suc, _<_}
 use native.Mathlib.Omega.{arith}
 use borrow.Author.Needs.{needs}
-use lib.IntN.{ℤ, pos, negℤ}
+use lib.IntN.{pos, negℤ}
 use mir.Syntax.{w32}
 use Rattle.whole.specs.Solver.{var, ⊝_}
 use Rattle.whole.specs.Fits.{Within, []ʷ, _∷ʷ_, step-fits, word-is}
 use Rattle.rules.specs.Program.{negated}
-use Rattle.text.specs.Meaning.{unsigned-as, Small}
+use Rattle.text.specs.Meaning.{Small}
 use Rattle.text.proofs.reading.negated.Statement.{statement}
 use Rattle.text.proofs.reading.negated.Tie as tie
 

@@ -1,11 +1,10 @@
 -- `text::reading::not_negated` meets its contract: the number fits.
 -- Assumes nothing.
-use mathlib.Core.Path.{_≡_, refl, sym, ap, subst, _∙_}
-use mathlib.Core.Option.{Option, some}
-use Prim.Native.Nat.{ℕ, _<_}
+use mathlib.Core.Path.{ap, subst}
+use mathlib.Core.Option.{some}
+use Prim.Native.Nat.{_<_}
 use native.Mathlib.Omega.{arith}
 use borrow.Author.Needs.{needs}
-use lib.IntN.{ℤ, pos}
 use mir.Syntax.{w32}
 use mir.Facts.{toZ-pos}
 use Rattle.text.specs.Meaning.{Small}

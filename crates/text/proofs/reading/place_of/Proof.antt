@@ -1,7 +1,7 @@
 -- `text::reading::place_of` meets its contract. The loop's invariant: the first place from `from` on is the first place from `i` on.
 -- Assumes nothing.
-use mathlib.Core.Path.{_≡_, refl, ap}
-use Prim.Native.Nat.{ℕ, _+_, _-_, _≤_}
+use mathlib.Core.Path.{_≡_, refl}
+use Prim.Native.Nat.{_+_, _-_, _≤_}
 use native.Mathlib.Omega.{arith}
 use lib.ListN.{length, drop, length-drop}
 use Rattle.rules.specs.Lists.{first-place}

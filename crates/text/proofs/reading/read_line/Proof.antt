@@ -1,11 +1,11 @@
 -- `text::reading::read_line` meets its contract: the line is cut at its first space, if it has one.
 -- Assumes nothing.
-use mathlib.Core.Path.{_≡_, refl, sym, ap, ap₂, _∙_}
+use mathlib.Core.Path.{sym, ap, ap₂, _∙_}
 use Prim.Native.Nat.{_+_, _<_}
 use native.Mathlib.Omega.{arith}
 use borrow.Author.Needs.{needs}
 use borrow.Rule.Slice.PartAt.{part-to-end}
-use lib.ListN.{length, drop}
+use lib.ListN.{length}
 use Rattle.rules.specs.Program.{space, number, both, parts, line}
 use Rattle.text.specs.Cuts.{is, first-place-within, cut-at-end, cut-nowhere}
 use Rattle.text.proofs.reading.read_line.Statement.{statement}

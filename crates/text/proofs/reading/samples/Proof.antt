@@ -1,6 +1,6 @@
 -- `text::reading::samples` meets its contract: each return is the rules' answer for what was decided and for the outputs' lengths.
 -- Assumes nothing.
-use mathlib.Core.Path.{_≡_, refl, sym, ap, _∙_}
+use mathlib.Core.Path.{_≡_, refl}
 use native.Mathlib.Omega.{arith}
 use borrow.Author.Needs.{needs}
 use Rattle.rules.specs.Refusals.{done}
@@ -11,7 +11,8 @@ use Rattle.text.proofs.reading.samples.Statement.{statement}
 use Rattle.text.proofs.reading.samples.Tie as tie
 
 -- so many samples
-decided : (c : tie.After-known-told2) → done (c .before .count .given .0 .0) ≡ counted (samples (c .before .before .before .before .before .args .text .now))
+decided : (c : tie.After-known-told2) →
+    done (c .before .count .given .0 .0) ≡ counted (samples (c .before .before .before .before .before .args .text .now))
 decided c = rw (c .before .count .given .1) at (c .before .before .before .decide .ensures)
 
 returns : tie.Need-returns

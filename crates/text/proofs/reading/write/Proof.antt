@@ -1,15 +1,15 @@
 -- `text::reading::write` meets its contract. The loop's invariant: the front of each output holds the parts of the samples so far. A good text
 -- has no bad line.
 -- Assumes nothing.
-use mathlib.Core.Path.{_≡_, refl, sym, ap, subst, _∙_}
-use Prim.Native.Nat.{_+_, _-_, _<_}
+use mathlib.Core.Path.{sym}
+use Prim.Native.Nat.{_-_, _<_}
 use native.Mathlib.Omega.{arith}
 use borrow.Author.Needs.{needs}
-use lib.ListN.{length, length-set}
+use lib.ListN.{length}
 use mir.Syntax.{w32}
 use Rattle.whole.specs.Fits.{cast-read}
 use Rattle.text.specs.declared.reading.Found.{Found}
-use Rattle.text.specs.Meaning.{NextLine, Fit}
+use Rattle.text.specs.Meaning.{NextLine}
 use Rattle.text.specs.Lines.{never-bad}
 use Rattle.text.specs.Writing.{Writing, writing-none, writing-more, room, east-length, north-length, east-after, north-after}
 use Rattle.text.proofs.reading.write.Statement.{statement}
