@@ -19,7 +19,7 @@ use Rattle.rules.specs.Chain.{Samples, Of, LeftEnd, RightEnd, Edge, Turn, Goes,
 use Rattle.rules.specs.Ring.{closed, ring}
 use Rattle.outline.specs.Lists.{Ranks, Best, best-is, best-some, two-keys-rank, two-keys-yes, two-keys-no, yes-first-key, yes-second-key, those-in, in-those, those-fewer, those-shorter, member-counts, is-no, streams-equal, map-twice, in-map, map-in}
 use Rattle.outline.specs.Sides.{side-crossed, side-of-second, before-turn, before-strict-turn, past-strict-turn, at-first-below, below-at-first, below-at-second, round-strictly, strictly-round, round-level, mirrored-twice}
-use Rattle.outline.specs.Under.{Under, Over, Hull, Through, on-self, on-inside, hull-under, hull-over, over-mirrored, under-mirrored, under-between, under-at-east, under-west, under-east, under-north, under-line}
+use Rattle.outline.specs.Under.{Under, Over, Behind, Through, on-self, on-inside, behind-under, behind-over, over-mirrored, under-mirrored, under-between, under-at-east, under-west, under-east, under-north, under-line}
 
 -- ---- the ends
 
@@ -475,12 +475,12 @@ lower-over xs s m =
 -- ---- the ring
 
 -- two lists each of which is, on every course, no stronger than the other
-pub ring-equal : {xs ys : List Stream} → ((s : Stream) → List·Memᴰ s xs → Hull (Of ys) s) → ((s : Stream) → List·Memᴰ s ys → Hull (Of xs) s)
+pub ring-equal : {xs ys : List Stream} → ((s : Stream) → List·Memᴰ s xs → Behind (Of ys) s) → ((s : Stream) → List·Memᴰ s ys → Behind (Of xs) s)
     → ring xs ≡ ring ys
 unfolding ring
 ring-equal f g =
-    ap₂ closed (upper-equal (λ s m. hull-under (f s m)) (λ s m. hull-under (g s m)))
-    (lower-equal (λ s m. hull-over (f s m)) (λ s m. hull-over (g s m)))
+    ap₂ closed (upper-equal (λ s m. behind-under (f s m)) (λ s m. behind-under (g s m)))
+    (lower-equal (λ s m. behind-over (f s m)) (λ s m. behind-over (g s m)))
 
 pub ring-members : {xs ys : List Stream} → ((s : Stream) → List·Memᴰ s xs → List·Memᴰ s ys) → ((s : Stream) → List·Memᴰ s ys → List·Memᴰ s xs)
     → ring xs ≡ ring ys

@@ -33,8 +33,8 @@ Under T s = On Northward T s
 abbrev pub Over : Samples → Stream → Type 0
 Over T s = On Southward T s
 
-abbrev pub Hull : Samples → Stream → Type 0
-Hull T s = On Every T s
+abbrev pub Behind : Samples → Stream → Type 0
+Behind T s = On Every T s
 
 -- ---- from set to set
 
@@ -52,13 +52,13 @@ on-trans f h =
 pub on-fewer : {J K : ℤ → ℤ → Type 0} {T : Samples} {s : Stream} → ((x y : ℤ) → J x y → K x y) → On K T s → On J T s
 on-fewer f h = record { stronger = λ x y j. h .stronger x y (f x y j) }
 
-pub hull-under : {T : Samples} {s : Stream} → Hull T s → Under T s
-hull-under h = on-fewer (λ x y j. tt) h
+pub behind-under : {T : Samples} {s : Stream} → Behind T s → Under T s
+behind-under h = on-fewer (λ x y j. tt) h
 
-pub hull-over : {T : Samples} {s : Stream} → Hull T s → Over T s
-hull-over h = on-fewer (λ x y j. tt) h
+pub behind-over : {T : Samples} {s : Stream} → Behind T s → Over T s
+behind-over h = on-fewer (λ x y j. tt) h
 
-pub under-over : {T : Samples} {s : Stream} → Under T s → Over T s → Hull T s
+pub under-over : {T : Samples} {s : Stream} → Under T s → Over T s → Behind T s
 under-over u o = record { stronger = λ x y k. ⊎-elim (λ h. u .stronger x y h) (λ h. o .stronger x y (<ℤ→≤ℤ h)) (≤ℤ-total (pos 0) y) }
 
 -- ---- what lies under two samples, or one
@@ -108,11 +108,11 @@ over-mirrored h = on-fewer south-of-north (mirrored-on h)
 pub under-mirrored : {T : Samples} {s : Stream} → Under T s → Over (Through mirrored T) (mirrored s)
 under-mirrored h = on-fewer north-of-south (mirrored-on h)
 
-pub hull-mirrored : {T : Samples} {s : Stream} → Hull T s → Hull (Through mirrored T) (mirrored s)
-hull-mirrored h = mirrored-on h
+pub mirrored-behind : {T : Samples} {s : Stream} → Behind T s → Behind (Through mirrored T) (mirrored s)
+mirrored-behind h = mirrored-on h
 
-pub hull-turned : {T : Samples} {s : Stream} → Hull T s → Hull (Through turned T) (turned s)
-hull-turned h = turned-on h
+pub turned-behind : {T : Samples} {s : Stream} → Behind T s → Behind (Through turned T) (turned s)
+turned-behind h = turned-on h
 
 -- ---- what holds of all the samples that s is under holds of s
 

@@ -20,7 +20,7 @@ use Rattle.rules.specs.Ring.{ring}
 use Rattle.rules.specs.Use.{envelope, set-on, strongest, inside, covers, join}
 use Rattle.outline.specs.Lists.{both-yes}
 use Rattle.outline.specs.Sides.{side-back, side-turned, side-of-first}
-use Rattle.outline.specs.Under.{Hull, on-self}
+use Rattle.outline.specs.Under.{Behind, on-self}
 use Rattle.outline.specs.Chains.{ring-equal}
 use Rattle.rings.specs.Rings.{AllBehind, envelope-ring}
 use Rattle.rings.specs.Strongest.{strongest-most, strongest-of}
@@ -69,7 +69,7 @@ module _ (x y : ℤ) (s : Stream) where
 
 -- ---- what is covered lies behind
 
-pub inside-behind : (p : Stream) (ps : List Stream) (s : Stream) → inside s p p ps ≡ true → Hull (Of (p ∷ ps)) s
+pub inside-behind : (p : Stream) (ps : List Stream) (s : Stream) → inside s p p ps ≡ true → Behind (Of (p ∷ ps)) s
 inside-behind p ps s e =
     record { stronger = λ x y k. ⊎-elim (as-strong x y) (λ h. absurd (too-strong x y h)) (≤ℤ-total (set-on x y s) (strongest x y p ps)) }
   where
@@ -79,7 +79,7 @@ inside-behind p ps s e =
     too-strong : (x y : ℤ) → strongest x y p ps <ℤ set-on x y s → ⊥
     too-strong x y h = not-inside x y s p ps (λ q m. ≤ℤ-<ℤ-trans (strongest-most x y p ps m) h) e
 
-pub covers-behind : (r : List Stream) (s : Stream) → covers r s ≡ true → Hull (Of r) s
+pub covers-behind : (r : List Stream) (s : Stream) → covers r s ≡ true → Behind (Of r) s
 unfolding covers
 covers-behind [] s e = absurd (false≢true e)
 covers-behind (p ∷ ps) s e = inside-behind p ps s (both-yes (leb 3 (length (p ∷ ps))) (inside s p p ps) e .1)
@@ -92,8 +92,8 @@ covered-ring r s e c = ring-equal behind (λ t m. on-self (Memᴰ·append-left (
     behind t m =
         ⊎-elim on-self alone (List·Memᴰ·append-cases r m)
       where
-        alone : List·Memᴰ t (s ∷ []) → Hull (Of r) t
-        alone n = subst (Hull (Of r)) (sym (List·Memᴰ·eq-of-singleton n)) (covers-behind r s c)
+        alone : List·Memᴰ t (s ∷ []) → Behind (Of r) t
+        alone n = subst (Behind (Of r)) (sym (List·Memᴰ·eq-of-singleton n)) (covers-behind r s c)
 
 pub covered-join : (r : List Stream) (s : Stream) → envelope r ≡ true → covers r s ≡ true → join r (s ∷ []) ≡ r
 unfolding join

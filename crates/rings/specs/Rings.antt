@@ -12,7 +12,7 @@ use Rattle.rules.specs.Chain.{Of, upper, lower}
 use Rattle.rules.specs.Ring.{first-of, last-of, equals, leave-first, leave-last, closed, ring}
 use Rattle.rules.specs.Use.{envelope}
 use Rattle.outline.specs.Lists.{same-equal, alike-same}
-use Rattle.outline.specs.Under.{Hull, on-self, on-inside, hull-under, hull-over, under-over}
+use Rattle.outline.specs.Under.{Behind, on-self, on-inside, behind-under, behind-over, under-over}
 use Rattle.outline.specs.Chains.{upper-is, upper-corners, upper-under, upper-equal, lower-corners, lower-over, lower-equal, ring-equal}
 use Rattle.rings.specs.Lists.{reverse-in, in-reverse}
 
@@ -111,13 +111,13 @@ module _ (xs : List Stream) {p : Stream} where
 
 -- ---- every sample is behind the ring: under its upper chain, and over its lower one
 
-pub ring-hull : (xs : List Stream) {s : Stream} → List·Memᴰ s xs → Hull (Of (ring xs)) s
-ring-hull xs {s} m =
+pub sample-behind : (xs : List Stream) {s : Stream} → List·Memᴰ s xs → Behind (Of (ring xs)) s
+sample-behind xs {s} m =
     under-over (on-inside (λ t. upper-in-ring xs) (upper-under (upper-is xs) s m)) (on-inside (λ t. lower-in-ring xs) (lower-over xs s m))
 
 -- samples have a corner
 pub ring-some : (xs : List Stream) {s : Stream} → List·Memᴰ s xs → (p : Stream) × (ps : List Stream) × (ring xs ≡ p ∷ ps)
-ring-some xs m = go (ring xs) (ring-hull xs m .stronger (pos 0) (pos 0) tt .1)
+ring-some xs m = go (ring xs) (sample-behind xs m .stronger (pos 0) (pos 0) tt .1)
   where
     go : (r : List Stream) {t : Stream} → List·Memᴰ t r → (p : Stream) × (ps : List Stream) × (r ≡ p ∷ ps)
     go [] n = absurd (List·Memᴰ·not-nil n)
@@ -127,20 +127,20 @@ ring-some xs m = go (ring xs) (ring-hull xs m .stronger (pos 0) (pos 0) tt .1)
 
 -- each of the first streams lies behind the others. Streams that lie behind each other have one ring (outline's `ring-equal`)
 abbrev pub AllBehind : List Stream → List Stream → Type 0
-AllBehind xs ys = (s : Stream) → List·Memᴰ s xs → Hull (Of ys) s
+AllBehind xs ys = (s : Stream) → List·Memᴰ s xs → Behind (Of ys) s
 
 module _ (xs : List Stream) where
   pub ring-behind : AllBehind (ring xs) xs
   ring-behind s m = on-self (ring-sample xs m)
 
   pub behind-ring : AllBehind xs (ring xs)
-  behind-ring s m = ring-hull xs m
+  behind-ring s m = sample-behind xs m
 
   pub upper-of-ring : upper (ring xs) ≡ upper xs
-  upper-of-ring = upper-equal (λ s m. hull-under (ring-behind s m)) (λ s m. hull-under (behind-ring s m))
+  upper-of-ring = upper-equal (λ s m. behind-under (ring-behind s m)) (λ s m. behind-under (behind-ring s m))
 
   pub lower-of-ring : lower (ring xs) ≡ lower xs
-  lower-of-ring = lower-equal (λ s m. hull-over (ring-behind s m)) (λ s m. hull-over (behind-ring s m))
+  lower-of-ring = lower-equal (λ s m. behind-over (ring-behind s m)) (λ s m. behind-over (behind-ring s m))
 
   pub ring-of-ring : ring (ring xs) ≡ ring xs
   ring-of-ring = ring-equal ring-behind behind-ring

@@ -9,7 +9,7 @@ use Rattle.rules.specs.Ring.{ring}
 use Rattle.rules.specs.Use.{envelope, join, turn-about}
 use Rattle.outline.specs.Lists.{map-twice, map-in, in-map}
 use Rattle.outline.specs.Sides.{turned-twice}
-use Rattle.outline.specs.Under.{Hull, on-inside, hull-turned}
+use Rattle.outline.specs.Under.{Behind, on-inside, turned-behind}
 use Rattle.outline.specs.Chains.{ring-equal}
 use Rattle.rings.specs.Mirror.{upper-turned, lower-turned}
 use Rattle.rings.specs.Rings.{AllBehind, ring-behind, behind-ring, upper-of-ring, lower-of-ring, envelope-ring, ring-envelope}
@@ -17,8 +17,8 @@ use Rattle.rings.specs.Joins.{join-rings}
 
 behind-turned : (xs ys : List Stream) → AllBehind xs ys → AllBehind (map turned xs) (map turned ys)
 behind-turned xs ys b s m =
-    subst (Hull (Of (map turned ys))) (turned-twice s)
-    (on-inside (λ t. in-map turned turned-twice) (hull-turned (b (turned s) (map-in turned turned-twice xs m))))
+    subst (Behind (Of (map turned ys))) (turned-twice s)
+    (on-inside (λ t. in-map turned turned-twice) (turned-behind (b (turned s) (map-in turned turned-twice xs m))))
 
 -- from corners alone, the envelope of all streams behind, turned about
 pub turn-ring : (xs : List Stream) → turn-about (ring xs) ≡ ring (map turned xs)
