@@ -1,8 +1,8 @@
 -- The rounds: the list that a round keeps carries the bridge of the list that they began with.
 -- Assumes nothing.
-use mathlib.Core.Path.{_≡_, refl, sym, ap, ap₂, _∙_, subst}
+use mathlib.Core.Path.{_≡_, refl, sym, ap, ap₂, _∙_}
 use mathlib.Core.Bool.{true}
-use mathlib.Core.Option.{Option, some, Option·some-injective}
+use mathlib.Core.Option.{some, Option·some-injective}
 use mathlib.Core.List.{List, map}
 use Prim.Native.Nat.{ℕ, _*_, _≤_, _<_}
 use native.Mathlib.Omega.{arith}
@@ -12,7 +12,6 @@ use lib.Seq.{length-take-le}
 use Rattle.rules.specs.Streams.{Stream}
 use Rattle.rules.specs.Chain.{Of}
 use Rattle.rules.specs.Bridge.{Bridge, ends, bridge, spans}
-use Rattle.rules.specs.Round as rules
 use Rattle.outline.specs.Bridges.{BridgeOver, bridge-is, bridge-unique}
 use Rattle.rounds.specs.Items.{first-of, kept-in}
 use Rattle.rounds.specs.Pairs.{here}

@@ -1,7 +1,7 @@
 -- The promise of the bridge, from its tests and from what the rounds find.
 -- Assumes nothing.
-use mathlib.Core.Path.{_≡_, refl, sym, ap, _∙_, subst, subst₂}
-use mathlib.Core.Bool.{Bool, true, false}
+use mathlib.Core.Path.{_≡_, sym, ap, _∙_, subst, subst₂}
+use mathlib.Core.Bool.{true, false}
 use mathlib.Core.Option.{some, Option·some-injective}
 use mathlib.Core.Logic.{_⊎_, inl, inr}
 use mathlib.Core.List.{List, [], map, List·Memᴰ, List·Memᴰ·not-nil, List·Memᴰ·cases-cons, Memᴰ·of-map}
@@ -9,19 +9,20 @@ use Prim.Native.Nat.{ℕ, zero, suc, _+_, _*_, _≤_, _<_}
 use native.Mathlib.Nat.{le-refl}
 use native.Mathlib.Omega.{arith}
 use borrow.Author.Tests.{ltb-false, eqb-true, not-false}
-use lib.IntN.{ℤ, pos}
+use lib.IntN.{ℤ}
 use lib.Dec.{eqb}
-use lib.ListN.{length, getD, take, replicate}
+use lib.ListN.{length, take, replicate}
 use Rattle.rules.specs.Lists.{zeros}
 use Rattle.rules.specs.Streams.{Stream, streams, sample, most}
 use Rattle.rules.specs.Bridge.{Bridge, ends, bridge, spans}
-use Rattle.rules.specs.Refusals.{Answer, refused, done, scratch-after}
+use Rattle.rules.specs.Round.{round, rounds}
+use Rattle.rules.specs.Refusals.{Answer, done, scratch-after}
 use Rattle.rules.specs.Entries.{reported-bridge, bridge-answer}
 use Rattle.rounds.specs.Rounds.{Found, rounds-find}
 use Rattle.rounds.specs.WholeList.{numbers, numbers-length, numbers-samples, rounds-report}
 use Rattle.samples.specs.declared.tests.Tested.{Tested}
 use Rattle.samples.specs.declared.tests.Tested.the-variants as tests
-use Rattle.samples.specs.Positions.{at, Sampled, Listed}
+use Rattle.samples.specs.Positions.{at, Sampled}
 use Rattle.samples.specs.Samples.{sampled, samples-at, streams-length}
 use Rattle.samples.specs.Tests.{tested-of, then-answer, passed-tests, answer-after, quiet-scratch}
 use Rattle.bridge.specs.declared.BridgeAnswer.the-variants as answer
@@ -75,13 +76,22 @@ module _ (es ns : List ℤ) (a : ℤ) {room : ℕ} (r : Ready es ns a room) wher
   -- the first of all the numbers at a position is the lowest: the rounds report the bridge
   pub reported : {b : Bridge ℕ} → Found (at es ns false) a (numbers (length es)) b → b ≡ reported-bridge (streams es ns) (bridge (streams es ns) a)
   unfolding xs
-  reported {b} f = found-one (sample xs) a here (o .2) ∙ Option·some-injective (o .0) (reported-bridge xs (bridge xs a)) (sym (o .1) ∙ rounds-report xs a (length xs) (le-refl (length xs)) (r .spanned))
+  reported {b} f = found-one (sample xs) a here (o .2) ∙ Option·some-injective (o .0) (reported-bridge xs (bridge xs a)) (sym (o .1) ∙ report)
     where
-      here : Found (sample xs) a (numbers (length xs)) b
+      l : List ℕ
+      l = numbers (length xs)
+
+      here : Found (sample xs) a l b
       here = subst₂ (λ (f : ℕ → Stream) (n : ℕ). Found f a (numbers n) b) (sym samples-are) (sym long) f
 
-      o : (c : Bridge ℕ) × (Rattle.rules.specs.Round.rounds (sample xs) (length xs) a (Rattle.rules.specs.Round.round (sample xs) a (numbers (length xs))) ≡ some c) × Found (sample xs) a (numbers (length xs)) c
-      o = rounds-find (sample xs) a (length xs) (numbers (length xs)) (omega (arith, numbers-length (length xs))) (subst (λ (ys : List Stream). spans a ys ≡ true) (sym (numbers-samples xs)) (r .spanned))
+      both : spans a (map (sample xs) l) ≡ true
+      both = subst (λ (ys : List Stream). spans a ys ≡ true) (sym (numbers-samples xs)) (r .spanned)
+
+      o : (c : Bridge ℕ) × (rounds (sample xs) (length xs) a (round (sample xs) a l) ≡ some c) × Found (sample xs) a l c
+      o = rounds-find (sample xs) a (length xs) l (omega (arith, numbers-length (length xs))) both
+
+      report : rounds (sample xs) (length xs) a (round (sample xs) a l) ≡ some (reported-bridge xs (bridge xs a))
+      report = rounds-report xs a (length xs) (le-refl (length xs)) (r .spanned)
 
   module _ {w : List ℕ} (e : take (length es) w ≡ numbers (length es)) where
     pub bridge-asks : room ≤ length w → BridgeAsks es ns false a w (length es)
@@ -91,7 +101,7 @@ module _ (es ns : List ℤ) (a : ℤ) {room : ℕ} (r : Ready es ns a room) wher
         record {
           sampled = r .is-sampled;
           listed = record { below = λ x m. numbers-below (length es) (subst (List·Memᴰ x) e m) };
-          spanned = subst (λ (l : List ℕ). spans a (map (at es ns false) l) ≡ true) (sym e) (subst (λ (ys : List Stream). spans a ys ≡ true) (sym whole) (r .spanned));
+          spanned = subst (λ (ys : List Stream). spans a ys ≡ true) (sym (ap (map (at es ns false)) e ∙ whole)) (r .spanned);
           room = omega arith;
         }
 
@@ -105,7 +115,8 @@ module _ (es ns : List ℤ) (a : ℤ) (scratch : List ℕ) where
   unfolding bridge-answer
   by-tests e = answer-after (bridge-tests es ns a (length scratch)) [] said-here ∙ ap (λ (x : Tested). then-answer x (done said-here)) e
 
-  pub refused-promise : {k p : ℕ} → tested-of (bridge-tests es ns a (length scratch)) ≡ tests.Refused k p → BridgePromise es ns a scratch (answer.Refused k p) scratch
+  pub refused-promise : {k p : ℕ} → tested-of (bridge-tests es ns a (length scratch)) ≡ tests.Refused k p
+      → BridgePromise es ns a scratch (answer.Refused k p) scratch
   refused-promise e =
       record {
         answer = sym (by-tests e);

@@ -1,8 +1,8 @@
 -- The answer of a round from what it has said, and its promise from the tests.
 -- Assumes nothing.
 use mathlib.Core.Path.{_≡_, refl, sym, ap, ap₂, _∙_, subst}
-use mathlib.Core.Bool.{Bool, true, false, cond, _||_}
-use mathlib.Core.List.{List, [], _∷_, _++_, map}
+use mathlib.Core.Bool.{Bool, true, false, cond}
+use mathlib.Core.List.{List, [], _∷_, map}
 use Prim.Native.Nat.{ℕ, _+_, _*_, _≤_, _<_}
 use native.Mathlib.Omega.{arith}
 use borrow.Author.Tests.{lt-ltb, le-ltb, ltb-false, eqb-true, not-false}
@@ -14,7 +14,7 @@ use Rattle.rules.specs.Lists.{zeros, written}
 use Rattle.rules.specs.Streams.{Stream, streams, sample}
 use Rattle.rules.specs.Bridge.{ends, spans}
 use Rattle.rules.specs.Round as rules
-use Rattle.rules.specs.Refusals.{Answer, refused, done, unless, output-short, output-after, scratch-after}
+use Rattle.rules.specs.Refusals.{Answer, refused, done, output-short, output-after, scratch-after}
 use Rattle.rules.specs.Entries.{kept-list, round-answer}
 use Rattle.samples.specs.Positions.{at, Sampled, Listed}
 use Rattle.samples.specs.Samples.{sampled, listed, samples-at, spans-two}
@@ -26,7 +26,7 @@ use Rattle.round.specs.declared.RoundAnswer.the-variants as answer
 use Rattle.round.specs.declared.core.Said.{Said}
 use Rattle.round.specs.declared.core.Said.the-variants as said
 use Rattle.round.specs.Saying.{said-as, RoundAsks, RoundSays}
-use Rattle.round.specs.Promise.{told, telling, answer-as, answer-of, round-tests, Answered, RoundPromise}
+use Rattle.round.specs.Promise.{telling, answer-as, answer-of, round-tests, Answered, RoundPromise}
 
 -- ---- what has been said
 
@@ -84,12 +84,18 @@ module _ (es ns : List ℤ) (list : List ℕ) (a : ℤ) (output scratch : List �
   abbrev said-here : rules.Said ℕ
   said-here = rules.round (sample (streams es ns)) a list
 
+  -- the tests before 5, then the test for 5
+  by-tests : {t : Tested} → tested-of (round-tests es ns list a (length scratch)) ≡ t → round-answer es ns list a output scratch ≡ then-answer t (answer-of said-here output)
+  unfolding round-answer
+  by-tests e =
+      answer-after (round-tests es ns list a (length scratch)) (output-short (ltb (length output) (length (kept-list said-here))) ∷ []) said-here
+      ∙ ap (λ (x : Tested). then-answer x (answer-of said-here output)) e
+
   pub refused-promise : {k p : ℕ} → tested-of (round-tests es ns list a (length scratch)) ≡ tests.Refused k p
       → RoundPromise es ns list a output scratch (answer.Refused k p) output scratch
-  unfolding round-answer
   refused-promise {k} {p} e =
       let ts = round-tests es ns list a (length scratch) in
-      let r = answer-after ts (output-short (ltb (length output) (length (kept-list said-here))) ∷ []) said-here ∙ ap (λ (x : Tested). then-answer x (answer-of said-here output)) e in
+      let r = by-tests e in
       record {
         answer = sym (ap telling r);
         output-is = sym (ap (λ (x : Answer (rules.Said ℕ)). output-after kept-list x output) r);
@@ -100,10 +106,8 @@ module _ (es ns : List ℤ) (list : List ℕ) (a : ℤ) (output scratch : List �
       → (s : Said) (w : List ℕ) → length w ≡ length scratch → said-as s w ≡ said-here
       → {r : RoundAnswer} {output-left scratch-left : List ℕ} → Answered s output w r output-left scratch-left
       → RoundPromise es ns list a output scratch r output-left scratch-left
-  unfolding round-answer
   passed-promise e s w long is h =
-      let ts = round-tests es ns list a (length scratch) in
-      let r = answer-after ts (output-short (ltb (length output) (length (kept-list said-here))) ∷ []) said-here ∙ ap (λ (x : Tested). then-answer x (answer-of said-here output)) e in
+      let r = by-tests e in
       let same = ap (λ (x : rules.Said ℕ). answer-of x output) is ∙ sym r in
       record {
         answer = h .answer ∙ ap telling same;

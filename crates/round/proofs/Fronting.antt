@@ -8,7 +8,7 @@ use native.Mathlib.Nat.{add-zero, le-refl}
 use native.Mathlib.Numerals.{add-one}
 use native.Mathlib.Omega.{arith}
 use mir.Val.{boolByte}
-use lib.ListN.{length, getD, take, drop, set, length-set, length-drop, drop-of-length-le}
+use lib.ListN.{length, getD, take, drop, set, length-set, drop-of-length-le}
 use lib.Seq.{getD-drop, drop-cons, drop-drop, drop-set-lt, take-set-le, take-suc-set}
 use Rattle.rules.specs.Lists.{consIf}
 use Rattle.rules.specs.Streams.{Stream}
@@ -48,49 +48,53 @@ module _ (at : ℕ → Stream) (t : Tops) (given : List ℕ) where
     pub next : getD w (i + 1) 0 ≡ getD given (i + 1) 0
     next = later 1
 
-    module _ (h : i + 1 < length given) (b c : Bool) (e : keeps at t (pair (getD w i 0) (getD w (i + 1) 0)) ≡ chosen b c (getD w i 0) (getD w (i + 1) 0)) where
-      x : ℕ
-      x = getD w i 0
+    module _
+        (h : i + 1 < length given)
+        (b c : Bool)
+        (e : keeps at t (pair (getD w i 0) (getD w (i + 1) 0)) ≡ chosen b c (getD w i 0) (getD w (i + 1) 0))
+      where
+        x : ℕ
+        x = getD w i 0
 
-      y : ℕ
-      y = getD w (i + 1) 0
+        y : ℕ
+        y = getD w (i + 1) 0
 
-      abbrev after : List ℕ
-      after = set (set w out (getD w i 0)) (out + boolByte b) (getD w (i + 1) 0)
+        abbrev after : List ℕ
+        after = set (set w out (getD w i 0)) (out + boolByte b) (getD w (i + 1) 0)
 
-      pair-next : drop i given ≡ x ∷ y ∷ drop (i + 2) given
-      unfolding x y
-      pair-next = drop-two given i h ∙ ap₂ (λ (m n : ℕ). m ∷ n ∷ drop (i + 2) given) (sym here) (sym next)
+        pair-next : drop i given ≡ x ∷ y ∷ drop (i + 2) given
+        unfolding x y
+        pair-next = drop-two given i h ∙ ap₂ (λ (m n : ℕ). m ∷ n ∷ drop (i + 2) given) (sym here) (sym next)
 
-      front-more : take (out + boolByte b + boolByte c) after ≡ take out w ++ chosen b c x y
-      unfolding x y
-      front-more =
-          let a = g .behind in
-          let l = g .long in
-          stored (set w out x) (out + boolByte b) y c (omega (arith, length-set w out x, byte-most b))
-          ∙ ap (λ (l : List ℕ). l ++ consIf c y []) (stored w out x b (omega arith))
-          ∙ both (take out w) x y b c
+        front-more : take (out + boolByte b + boolByte c) after ≡ take out w ++ chosen b c x y
+        unfolding x y
+        front-more =
+            let a = g .behind in
+            let l = g .long in
+            stored (set w out x) (out + boolByte b) y c (omega (arith, length-set w out x, byte-most b))
+            ∙ ap (λ (l : List ℕ). l ++ consIf c y []) (stored w out x b (omega arith))
+            ∙ both (take out w) x y b c
 
-      pub fronting-more : Fronting after (out + boolByte b + boolByte c) (i + 2)
-      unfolding keep paired x y
-      fronting-more =
-          let a = g .behind in
-          record {
-            inside = omega arith;
-            behind = omega (arith, byte-most b, byte-most c);
-            long = length-set (set w out x) (out + boolByte b) y ∙ length-set w out x ∙ g .long;
-            rest =
-                drop-set-lt (i + 2) (set w out x) (out + boolByte b) y (omega (arith, byte-most b))
-                ∙ drop-set-lt (i + 2) w out x (omega arith)
-                ∙ sym (drop-drop 2 i w)
-                ∙ ap (drop 2) (g .rest)
-                ∙ drop-drop 2 i given;
-            front =
-                ap (λ (l : List ℕ). l ++ keep at t (paired (drop (i + 2) given))) (front-more ∙ ap (λ (l : List ℕ). take out w ++ l) (sym e))
-                ∙ append-assoc (take out w) (keeps at t (pair x y)) (keep at t (paired (drop (i + 2) given)))
-                ∙ ap (λ (l : List ℕ). take out w ++ keep at t (paired l)) (sym pair-next)
-                ∙ g .front;
-          }
+        pub fronting-more : Fronting after (out + boolByte b + boolByte c) (i + 2)
+        unfolding keep paired x y
+        fronting-more =
+            let a = g .behind in
+            record {
+              inside = omega arith;
+              behind = omega (arith, byte-most b, byte-most c);
+              long = length-set (set w out x) (out + boolByte b) y ∙ length-set w out x ∙ g .long;
+              rest =
+                  drop-set-lt (i + 2) (set w out x) (out + boolByte b) y (omega (arith, byte-most b))
+                  ∙ drop-set-lt (i + 2) w out x (omega arith)
+                  ∙ sym (drop-drop 2 i w)
+                  ∙ ap (drop 2) (g .rest)
+                  ∙ drop-drop 2 i given;
+              front =
+                  ap (λ (l : List ℕ). l ++ keep at t (paired (drop (i + 2) given))) (front-more ∙ ap (λ (l : List ℕ). take out w ++ l) (sym e))
+                  ∙ append-assoc (take out w) (keeps at t (pair x y)) (keep at t (paired (drop (i + 2) given)))
+                  ∙ ap (λ (l : List ℕ). take out w ++ keep at t (paired l)) (sym pair-next)
+                  ∙ g .front;
+            }
 
     -- none is left
     pub fronting-all : length given ≤ i → KeptFront at t given out w

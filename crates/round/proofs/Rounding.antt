@@ -1,18 +1,17 @@
 -- A round from its parts: two samples; no slope; and K with the tops.
 -- Assumes nothing.
-use mathlib.Core.Path.{_≡_, refl, sym, ap, ap₂, _∙_, subst}
+use mathlib.Core.Path.{_≡_, refl, sym, ap, ap₂, _∙_}
 use mathlib.Core.Bool.{Bool, true, false, cond, _&&_}
 use mathlib.Core.Option.{Option, none, some}
 use mathlib.Core.List.{List, [], _∷_, _++_}
-use Prim.Native.Nat.{ℕ, suc, _+_, _/_, _≤_, _<_}
+use Prim.Native.Nat.{ℕ, _+_, _/_, _≤_, _<_}
 use native.Mathlib.Omega.{arith}
 use lib.IntN.{ℤ}
 use lib.Signed.{leZ, ltZ}
 use lib.ListN.{length, getD, drop}
-use Rattle.rules.specs.Lists.{best-from}
 use Rattle.rules.specs.Streams.{Stream}
 use Rattle.rules.specs.Bridge.{ends}
-use Rattle.rules.specs.Round.{Slope, slope-le, Group, pair, odd, paired, Said, found, kept, Tops, unsought, west, east, slope-of, with-slope, slopes, left-of, right-of, keeps-of, keep, left-top, right-top, decided, round-with, round-by, round}
+use Rattle.rules.specs.Round.{Slope, slope-le, Group, pair, odd, paired, found, kept, Tops, unsought, west, slope-of, with-slope, slopes, left-of, right-of, keeps-of, keep, decided, round-with, round-by, round}
 use Rattle.ranks.specs.Ranks.{HasRank}
 use Rattle.rounds.specs.Slopes.{Up}
 use Rattle.rounds.specs.Values.{round-by-counts}
@@ -103,7 +102,8 @@ module _ (at : ℕ → Stream) (a : ℤ) where
     pub tops-found : leZ (t .from) a ≡ true → ltZ a (t .to) ≡ true → found (ends (t .left) (t .right)) ≡ round-with at a K (getD l 0 0) (drop 1 l)
     tops-found f g = sym (by-tops ∙ by-tests f g)
 
-    pub tops-west : leZ (t .from) a ≡ true → ltZ a (t .to) ≡ false → kept (keep at (towards (leZ (t .to) a) K) (paired l)) ≡ round-with at a K (getD l 0 0) (drop 1 l)
+    pub tops-west : leZ (t .from) a ≡ true → ltZ a (t .to) ≡ false
+        → kept (keep at (towards (leZ (t .to) a) K) (paired l)) ≡ round-with at a K (getD l 0 0) (drop 1 l)
     tops-west f g = sym (by-tops ∙ by-tests f g)
 
     pub tops-east : leZ (t .from) a ≡ false → kept (keep at (towards (leZ (t .to) a) K) (paired l)) ≡ round-with at a K (getD l 0 0) (drop 1 l)

@@ -1,10 +1,10 @@
 -- What a round says in each of its three cases, from what its parts say.
 -- Assumes nothing.
-use mathlib.Core.Path.{_≡_, refl, sym, ap, ap₂, _∙_, subst, subst₂}
+use mathlib.Core.Path.{_≡_, refl, sym, ap, ap₂, _∙_, subst₂}
 use mathlib.Core.Logic.{_≢_}
 use mathlib.Core.Bool.{Bool, true, false, cond}
-use mathlib.Core.List.{List, [], _∷_, _++_}
-use Prim.Native.Nat.{ℕ, suc, _+_, _*_, _/_, _≤_, _<_}
+use mathlib.Core.List.{List, [], _++_}
+use Prim.Native.Nat.{ℕ, _+_, _/_, _≤_, _<_}
 use native.Mathlib.Omega.{arith}
 use lib.IntN.{ℤ, pos}
 use lib.Signed.{ltZ}
@@ -16,7 +16,6 @@ use Rattle.rules.specs.Round as rules
 use Rattle.ranks.specs.Ranks.{HasRank}
 use Rattle.slopes.specs.Fractions.{fractions, Near, Picked}
 use Rattle.slopes.specs.Laws.{length-fractions}
-use Rattle.samples.specs.Positions.{at, east-of}
 use Rattle.round.specs.declared.core.Said.{Said}
 use Rattle.round.specs.declared.core.Said.the-variants.{Found, Kept}
 use Rattle.round.specs.Slopes.{Sloped}

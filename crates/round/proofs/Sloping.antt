@@ -5,7 +5,7 @@ use mathlib.Core.Logic.{_⊎_, inl, inr}
 use mathlib.Core.Bool.{Bool, true, false, cond}
 use mathlib.Core.Option.{Option, none, some}
 use mathlib.Core.List.{List, [], _∷_, _++_, append-nil}
-use Prim.Native.Nat.{ℕ, zero, suc, _+_, _*_, _≤_, _<_}
+use Prim.Native.Nat.{ℕ, _+_, _*_, _≤_, _<_}
 use native.Mathlib.Nat.{not-suc-le-zero, eq-or-lt-of-le, add-zero, add-assoc}
 use native.Mathlib.Omega.{arith}
 use borrow.Author.Tests.{ltb-true}
@@ -14,8 +14,8 @@ use lib.Dec.{ltb}
 use lib.ListN.{length, getD, take, drop, set, length-set, length-drop}
 use lib.Seq.{getD-set-same, getD-set-other, getD-take, drop-set-add, take-set-le, length-take-le, append-snoc}
 use Rattle.rules.specs.Streams.{Stream}
-use Rattle.rules.specs.Round.{Slope, Group, pair, paired, slope-of, with-slope, slopes}
-use Rattle.slopes.specs.Fractions.{fraction, fraction-at, fractions, Part, Sound}
+use Rattle.rules.specs.Round.{Slope, paired, with-slope, slopes}
+use Rattle.slopes.specs.Fractions.{fraction, fractions, Part, Sound}
 use Rattle.slopes.specs.Passes.{Alike}
 use Rattle.slopes.specs.Laws.{one-more, fractions-alike, sound-alike}
 use Rattle.samples.specs.Scans.{byte-most}
@@ -119,7 +119,8 @@ module _ (at : ℕ → Stream) (w₀ : List ℕ) (t : ℕ) where
       fits = let a = g .few in let b = g .long in omega (arith, length-drop t w)
 
       gathered : (b : Bool) (ks : List Slope)
-          → (fractions q (drop t w) ++ cond b (fraction rise run ∷ []) []) ++ ks ≡ fractions q (drop t w) ++ with-slope at (cond b (some (fraction rise run)) none) ks
+          → (fractions q (drop t w) ++ cond b (fraction rise run ∷ []) []) ++ ks
+          ≡ fractions q (drop t w) ++ with-slope at (cond b (some (fraction rise run)) none) ks
       gathered true ks = append-snoc (fractions q (drop t w)) (fraction rise run) ks
       gathered false ks = ap (λ (l : List Slope). l ++ ks) (append-nil (fractions q (drop t w)))
 

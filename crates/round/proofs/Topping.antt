@@ -2,8 +2,8 @@
 -- Assumes nothing.
 use mathlib.Core.Path.{_≡_, refl, sym, ap, ap₂, _∙_}
 use mathlib.Core.Bool.{Bool, true, false, cond, _||_, _&&_}
-use mathlib.Core.List.{List, []}
-use Prim.Native.Nat.{ℕ, suc, _+_, _≤_, _<_}
+use mathlib.Core.List.{List}
+use Prim.Native.Nat.{ℕ, _+_, _≤_, _<_}
 use native.Mathlib.Numerals.{add-one}
 use native.Mathlib.Omega.{arith}
 use lib.IntN.{ℤ}
@@ -124,16 +124,23 @@ module _ (at : ℕ → Stream) (K : Slope) (list : List ℕ) where
       module _ (e : ltZ (t .height) (height K (at y)) ≡ false) (f : ltZ (height K (at y)) (t .height) ≡ false) where
         left-test : {b : Bool} → ltZ (at y .east) (t .from) ≡ b → left-top at K y (t .left) ≡ b
         unfolding left-top
-        left-test k = let a = lh in let e : height K (at y) ≡ height K (at (t .left)) = omega order in by-level _ e ∙ ap (ltZ (at y .east)) (sym (g .from-is)) ∙ k
+        left-test k =
+            let a = lh in
+            let e : height K (at y) ≡ height K (at (t .left)) = omega order in
+            by-level _ e ∙ ap (ltZ (at y .east)) (sym (g .from-is)) ∙ k
 
         right-test : {b : Bool} → ltZ (t .to) (at y .east) ≡ b → right-top at K y (t .right) ≡ b
         unfolding right-top
-        right-test k = let a = rh in let e : height K (at y) ≡ height K (at (t .right)) = omega order in by-level _ e ∙ ap (λ (z : ℤ). ltZ z (at y .east)) (sym (g .to-is)) ∙ k
+        right-test k =
+            let a = rh in
+            let e : height K (at y) ≡ height K (at (t .right)) = omega order in
+            by-level _ e ∙ ap (λ (z : ℤ). ltZ z (at y .east)) (sym (g .to-is)) ∙ k
 
         level : t .height ≡ height K (at y)
         level = omega order
 
-        new-left : ltZ (at y .east) (t .from) ≡ true → Topping (i + 1) (record { height = t .height; left = y; from = at y .east; right = t .right; to = t .to })
+        new-left : ltZ (at y .east) (t .from) ≡ true
+            → Topping (i + 1) (record { height = t .height; left = y; from = at y .east; right = t .right; to = t .to })
         new-left k =
             let o = g .in-order in
             let west : at y .east ≤ℤ t .to = omega order in
@@ -178,10 +185,12 @@ module _ (at : ℕ → Stream) (K : Slope) (list : List ℕ) where
       pub topping-more : Topping (i + 1) (better-of t (top-of at K y))
       unfolding s
       topping-more =
-          go (ltZ (t .height) (height K (at y))) (ltZ (height K (at y)) (t .height)) (ltZ (at y .east) (t .from)) (ltZ (t .to) (at y .east)) refl refl refl refl
+          go (ltZ (t .height) (height K (at y))) (ltZ (height K (at y)) (t .height)) (ltZ (at y .east) (t .from)) (ltZ (t .to) (at y .east))
+          refl refl refl refl
         where
           go : (a b c d : Bool)
-              → ltZ (t .height) (height K (at y)) ≡ a → ltZ (height K (at y)) (t .height) ≡ b → ltZ (at y .east) (t .from) ≡ c → ltZ (t .to) (at y .east) ≡ d
+              → ltZ (t .height) (height K (at y)) ≡ a → ltZ (height K (at y)) (t .height) ≡ b
+              → ltZ (at y .east) (t .from) ≡ c → ltZ (t .to) (at y .east) ≡ d
               → Topping (i + 1)
               (cond a s
               (cond b t

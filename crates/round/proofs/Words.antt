@@ -25,7 +25,9 @@ held h = cast-within (value-fits w32 (h ∷ʷ []ʷ) (var 0) tt) h
 
 -- K's run, a north, K's rise, an east
 pub height-leaves : {p : Stream} {K : Slope} → Near p → fractions.Near K
-    → Leaves (read (K .run) ∷ p .north ∷ read (K .rise) ∷ p .east ∷ []) (K .run ∷ p .north ∷ K .rise ∷ p .east ∷ []) (2000000 ∷ 1000000 ∷ 2000000 ∷ 1000000 ∷ [])
+    → Leaves (read (K .run) ∷ p .north ∷ read (K .rise) ∷ p .east ∷ [])
+    (K .run ∷ p .north ∷ K .rise ∷ p .east ∷ [])
+    (2000000 ∷ 1000000 ∷ 2000000 ∷ 1000000 ∷ [])
 height-leaves h k = held (k .run-near) ∷ᶜ h .north-near ∷ʷ held (k .rise-near) ∷ᶜ h .east-near ∷ʷ []ʷ
 
 -- two positions: the east and the north of the first, and those of the second

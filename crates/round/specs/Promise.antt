@@ -1,7 +1,7 @@
 -- The promise of the round: its answer, and what it leaves of all that is lent, as the rules have them.
 -- Assumes nothing.
 use mathlib.Core.Path.{_≡_}
-use mathlib.Core.Bool.{Bool, not, _||_}
+use mathlib.Core.Bool.{not, _||_}
 use mathlib.Core.List.{List, [], _∷_, map}
 use Prim.Native.Nat.{ℕ, _+_, _*_}
 use lib.IntN.{ℤ}
@@ -38,7 +38,14 @@ telling (refused number place) = refused number place
 telling (done said) = done (told said)
 
 -- for the samples, the list, a, the output and the scratch that are given: what is answered, and the output and the scratch that are left
-pub record RoundPromise (es ns : List ℤ) (list : List ℕ) (a : ℤ) (output scratch : List ℕ) (r : RoundAnswer) (output-left scratch-left : List ℕ) : Type 0 where
+pub record RoundPromise
+    (es ns : List ℤ)
+    (list : List ℕ)
+    (a : ℤ)
+    (output scratch : List ℕ)
+    (r : RoundAnswer)
+    (output-left scratch-left : List ℕ)
+    : Type 0 where
   pub answer : answer-as r ≡ telling (round-answer es ns list a output scratch)
   pub output-is : output-left ≡ output-after kept-list (round-answer es ns list a output scratch) output
   pub scratch-is : scratch-left ≡ scratch-after (round-answer es ns list a output scratch) scratch

@@ -94,7 +94,8 @@ module _ (es ns : List ℤ) (h : length es ≡ length ns) where
       go true t =
           near-sample
           (both-within (sample xs i)
-          (none-passes beyond xs e (sample xs i) (at-place-in xs i (stream (pos 0) (pos 0)) (omega (arith, streams-length es ns h, ltb-true i (length es) t)))))
+          (none-passes beyond xs e (sample xs i)
+          (at-place-in xs i (stream (pos 0) (pos 0)) (omega (arith, streams-length es ns h, ltb-true i (length es) t)))))
       go false t =
           near-sample
           (rw (List·getD-eq-default xs (stream (pos 0) (pos 0)) {n = i} (omega (arith, streams-length es ns h, ltb-false i (length es) t))) zero-near)

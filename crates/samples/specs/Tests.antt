@@ -10,7 +10,7 @@ use lib.Dec.{T, ltb, eqb}
 use lib.ListN.{length}
 use Rattle.rules.specs.Lists.{zeros}
 use Rattle.rules.specs.Streams.{streams}
-use Rattle.rules.specs.Refusals.{Answer, refused, done, Test, test, unless, lengths-differ, too-many, part-beyond}
+use Rattle.rules.specs.Refusals.{Answer, refused, Test, test, unless, lengths-differ, too-many, part-beyond}
 use Rattle.samples.specs.declared.tests.Tested.{Tested}
 use Rattle.samples.specs.declared.tests.Tested.the-variants.{Passed, Refused}
 
@@ -31,7 +31,8 @@ None-hold [] = Unit {0}
 None-hold (t ∷ ts) = (t .holds ≡ false) × None-hold ts
 
 -- a test that holds refuses after others that do not
-pub refused-at : (us : List Test) (t : Test) (ts : List Test) → None-hold us → t .holds ≡ true → tested-of (us ++ (t ∷ ts)) ≡ Refused (t .number) (t .place)
+pub refused-at : (us : List Test) (t : Test) (ts : List Test) → None-hold us → t .holds ≡ true
+    → tested-of (us ++ (t ∷ ts)) ≡ Refused (t .number) (t .place)
 refused-at [] t ts n e = ap (λ (b : Bool). cond b (Refused (t .number) (t .place)) (tested-of ts)) e
 refused-at (u ∷ us) t ts n e =
     ap (λ (b : Bool). cond b (Refused (u .number) (u .place)) (tested-of (us ++ (t ∷ ts)))) (n .0) ∙ refused-at us t ts (n .1) e
@@ -65,7 +66,8 @@ tested-after [] us = refl
 tested-after (t ∷ ts) us = go (t .holds) (tested-after ts us)
   where
     go : (b : Bool) → tested-of (ts ++ us) ≡ then-tested (tested-of ts) (tested-of us)
-        → cond b (Refused (t .number) (t .place)) (tested-of (ts ++ us)) ≡ then-tested (cond b (Refused (t .number) (t .place)) (tested-of ts)) (tested-of us)
+        → cond b (Refused (t .number) (t .place)) (tested-of (ts ++ us))
+        ≡ then-tested (cond b (Refused (t .number) (t .place)) (tested-of ts)) (tested-of us)
     go true e = refl
     go false e = e
 
@@ -74,7 +76,8 @@ answer-after [] us x = refl
 answer-after (t ∷ ts) us x = go (t .holds) (answer-after ts us x)
   where
     go : (b : Bool) → unless (ts ++ us) x ≡ then-answer (tested-of ts) (unless us x)
-        → cond b (refused (t .number) (t .place)) (unless (ts ++ us) x) ≡ then-answer (cond b (Refused (t .number) (t .place)) (tested-of ts)) (unless us x)
+        → cond b (refused (t .number) (t .place)) (unless (ts ++ us) x)
+        ≡ then-answer (cond b (Refused (t .number) (t .place)) (tested-of ts)) (unless us x)
     go true e = refl
     go false e = e
 

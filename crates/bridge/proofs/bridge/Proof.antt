@@ -1,18 +1,19 @@
 -- `bridge::bridge` meets its promise: the tests refuse, or the rounds from all the numbers report the bridge. Assumes nothing.
 use mathlib.Core.Path.{_≡_, sym, ap, _∙_, subst, subst₂}
-use mathlib.Core.Bool.{false, true}
-use mathlib.Core.List.{List, map}
+use mathlib.Core.Bool.{false}
+use mathlib.Core.List.{List}
 use Prim.Native.Nat.{ℕ}
 use native.Mathlib.Omega.{arith}
 use borrow.Author.Needs.{needs}
 use lib.IntN.{ℤ}
-use lib.ListN.{length, take}
+use lib.ListN.{length}
 use mir.Syntax.{w32, w64}
 use mir.Val.{toZ, ofZ}
 use mir.Facts.{toZ-ofZ}
 use Rattle.whole.specs.Solver.{var}
 use Rattle.whole.specs.Fits.{[]ʷ, _∷ᶜ_, cast, step-fits, word-is}
 use Rattle.rules.specs.Bridge.{ends}
+use Rattle.rules.specs.Refusals.{Test}
 use Rattle.rounds.specs.Rounds.{Found}
 use Rattle.samples.specs.declared.tests.Tested.the-variants as tests
 use Rattle.samples.specs.Positions.{at}
@@ -26,29 +27,32 @@ use Rattle.bridge.proofs.bridge.Tie as tie
 a-is : (s : tie.Start) → toZ w64 (ofZ w64 (toZ w32 (ofZ w32 (s .args .a)))) ≡ s .args .a
 a-is s = word-is w64 (cast (s .fits .a) ∷ᶜ []ʷ) (var 0) tt
 
--- what the tests say
-tests-said : (c : tie.After-tested) → tested-of (bridge-tests (c .before .before .args .east .now) (c .before .before .args .north .now) (c .before .before .args .a) (length (c .before .before .args .scratch .now)))
-    ≡ c .tested .result
+-- the tests of what is given
+abbrev given-tests : tie.Start → List Test
+given-tests s = bridge-tests (s .args .east .now) (s .args .north .now) (s .args .a) (length (s .args .scratch .now))
+
+tests-said : (c : tie.After-tested) → tested-of (given-tests (c .before .before)) ≡ c .tested .result
 tests-said c =
     let s = c .before .before in
     let a = s .args in
-    ap (λ (z : ℤ). tested-of (bridge-tests (a .east .now) (a .north .now) z (length (a .scratch .now)))) (sym (toZ-ofZ (s .fits .a))) ∙ sym (c .tested .ensures)
+    ap (λ (z : ℤ). tested-of (bridge-tests (a .east .now) (a .north .now) z (length (a .scratch .now)))) (sym (toZ-ofZ (s .fits .a)))
+    ∙ sym (c .tested .ensures)
 
 returns : tie.Need-returns
 returns c =
-    let s = c .before .before .before .before .before .args in
-    refused-promise (s .east .now) (s .north .now) (s .a) (s .scratch .now) (tests-said (c .before .before .before) ∙ c .before .number .given .1)
+    let a = c .before .before .before .before .before .args in
+    refused-promise (a .east .now) (a .north .now) (a .a) (a .scratch .now) (tests-said (c .before .before .before) ∙ c .before .number .given .1)
 
 -- what is known where the tests are passed
-module _ (c : tie.After-enum-told) where
+module _ (d : tie.After-enum-told) where
   abbrev start : tie.Start
-  start = c .before .before .before .before
+  start = d .before .before .before .before
 
-  passed : tested-of (bridge-tests (start .args .east .now) (start .args .north .now) (start .args .a) (length (start .args .scratch .now))) ≡ tests.Passed
-  passed = tests-said (c .before .before) ∙ c .enum-told .given .1
+  passed : tested-of (given-tests start) ≡ tests.Passed
+  passed = tests-said (d .before .before) ∙ d .enum-told .given .1
 
   is-ready : Ready (start .args .east .now) (start .args .north .now) (start .args .a) (length (start .args .scratch .now))
-  is-ready = ready (start .args .east .now) (start .args .north .now) (start .args .a) (length (start .args .scratch .now)) passed
+  is-ready = let a = start .args in ready (a .east .now) (a .north .now) (a .a) (length (a .scratch .now)) passed
 
 number-requires : tie.Need-number-requires
 number-requires c κs = let r = is-ready (c .before) in let large = r .large in let few = r .few in (omega arith, omega arith)
@@ -64,14 +68,16 @@ bridge-of-requires c κs =
 
 returns-2 : tie.Need-returns-2
 returns-2 c =
-    let d = c .before .before .before .before .before .before .before .before .before .before .before .before in
+    let numbered = c .before .before .before .before .before .before .before .before .before .before in
+    let d = numbered .before .before in
     let s = start d in
     let a = s .args in
-    let o = c .before .before .before .before .before .before .before .before .before .before .number2 in
+    let o = numbered .number2 in
     let f = c .before .before .before .before .before .before .bridge-of in
+    let places = at (a .east .now) (a .north .now) false in
+    let over = subst₂ (λ (z : ℤ) (l : List ℕ). Found places z l (ends (f .result .left) (f .result .right))) (a-is s) (o .ensures) (f .ensures) in
     passed-promise (a .east .now) (a .north .now) (a .a) (a .scratch .now) (passed d)
-    (reported (a .east .now) (a .north .now) (a .a) (is-ready d)
-    (subst₂ (λ (z : ℤ) (l : List ℕ). Found (at (a .east .now) (a .north .now) false) z l (ends (f .result .left) (f .result .right))) (a-is s) (o .ensures) (f .ensures)))
+    (reported (a .east .now) (a .north .now) (a .a) (is-ready d) over)
     (f .last .1 .1 .1 .1 .0)
     (f .kept .1 .1 .1 .1 .0 ∙ o .kept .0)
     (c .before .before .clear .ensures)

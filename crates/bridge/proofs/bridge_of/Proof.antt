@@ -1,5 +1,5 @@
 -- `bridge::bridge_of` meets its contract: every list that a round keeps carries the bridge, and is shorter. Assumes nothing.
-use mathlib.Core.Path.{_≡_, sym, _∙_, subst, subst⁻¹}
+use mathlib.Core.Path.{_≡_, _∙_, subst, subst⁻¹}
 use mathlib.Core.Bool.{true}
 use mathlib.Core.List.{List, map}
 use Prim.Native.Nat.{ℕ}
@@ -15,6 +15,7 @@ use Rattle.rules.specs.Bridge.{ends, spans}
 use Rattle.rounds.specs.Rounds.{Found}
 use Rattle.samples.specs.Positions.{at}
 use Rattle.round.specs.declared.core.Said.{Said}
+use Rattle.round.specs.declared.core.Said.the-variants.{Kept}
 use Rattle.round.specs.Saying.{RoundSays}
 use Rattle.bridge.proofs.Bridging.{Bridging, bridging-first, at-least-two, bridging-found, bridging-more, bridging-less}
 use Rattle.bridge.proofs.bridge_of.Statement.{statement}
@@ -63,25 +64,39 @@ returns c =
     (bridging-found (places s) (word s) (length (s .args .e .now)) (s .args .w .now) (s .args .count) (s .pre .room) (l .inv)
     (subst (λ (r : Said). RoundSays (places s) (word s) (l .w) (l .t) r (o .last .1 .1 .1 .1 .0)) (c .before .left .given .1) (o .ensures)))
 
--- what the round says where it keeps a list
-said : (c : tie.After-known-told2 Inv-loop μ-loop)
-    → RoundSays (places (c .before .before .before .before .before .before .before .before .before)) (word (c .before .before .before .before .before .before .before .before .before)) (c .before .before .before .before .before .before .before .loop .w) (c .before .before .before .before .before .before .before .loop .t) (Rattle.round.specs.declared.core.Said.the-variants.Kept (c .before .m .given .0 .0)) (c .before .before .before .before .before .round-of .last .1 .1 .1 .1 .0)
-said c =
-    let o = c .before .before .before .before .before .round-of in
-    let l = c .before .before .before .before .before .before .before .loop in
-    subst (λ (r : Said). RoundSays (places (c .before .before .before .before .before .before .before .before .before)) (word (c .before .before .before .before .before .before .before .before .before)) (l .w) (l .t) r (o .last .1 .1 .1 .1 .0)) (c .before .m .given .1) (o .ensures)
+-- what is known where a round keeps a list
+module _ (c : tie.After-known-told2 Inv-loop μ-loop) where
+  abbrev at-loop : tie.At-loop Inv-loop μ-loop
+  at-loop = c .before .before .before .before .before .before .before
+
+  abbrev start : tie.Start Inv-loop μ-loop
+  start = at-loop .before .before
+
+  abbrev rounded : tie.After-round-of Inv-loop μ-loop
+  rounded = c .before .before .before .before .before
+
+  abbrev left : List ℕ
+  left = rounded .round-of .last .1 .1 .1 .1 .0
+
+  same-long : length left ≡ length (at-loop .loop .w)
+  same-long = rounded .round-of .kept .1 .1 .1 .1 .0
+
+  said : RoundSays (places start) (word start) (at-loop .loop .w) (at-loop .loop .t) (Kept (c .before .m .given .0 .0)) left
+  said =
+      subst (λ (r : Said). RoundSays (places start) (word start) (at-loop .loop .w) (at-loop .loop .t) r left) (c .before .m .given .1)
+      (rounded .round-of .ensures)
 
 loop-less : tie.Need-loop-less Inv-loop μ-loop
 loop-less c =
-    let s = c .before .before .before .before .before .before .before .before .before in
-    bridging-less (places s) (word s) (length (s .args .e .now)) (s .args .w .now) (s .args .count) (s .pre .room) (c .before .before .before .before .before .before .before .loop .inv)
-    (c .before .before .before .before .before .round-of .kept .1 .1 .1 .1 .0) (said c)
+    let s = start c in
+    let samples = length (s .args .e .now) in
+    bridging-less (places s) (word s) samples (s .args .w .now) (s .args .count) (s .pre .room) (at-loop c .loop .inv) (same-long c) (said c)
 
 loop-again : tie.Need-loop-again Inv-loop μ-loop
 loop-again c =
-    let s = c .before .before .before .before .before .before .before .before .before in
-    bridging-more (places s) (word s) (length (s .args .e .now)) (s .args .w .now) (s .args .count) (s .pre .room) (c .before .before .before .before .before .before .before .loop .inv)
-    (c .before .before .before .before .before .round-of .kept .1 .1 .1 .1 .0) (said c)
+    let s = start c in
+    let samples = length (s .args .e .now) in
+    bridging-more (places s) (word s) samples (s .args .w .now) (s .args .count) (s .pre .room) (at-loop c .loop .inv) (same-long c) (said c)
 
 pub bridge-of-spec : {M : Type 1} → statement M
 bridge-of-spec =

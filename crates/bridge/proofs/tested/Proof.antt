@@ -34,15 +34,26 @@ after c e =
     ∙ ap (λ (t : Tested). then-tested t (six spanned)) (sym (c .of-samples .ensures) ∙ e)
 
 -- where the tests of samples are passed, the easts decide
-spans-said : (c : tie.After-spans) → spans (c .before .before .before .before .args .a) (streams (c .before .before .before .before .args .east .now) (c .before .before .before .before .args .north .now)) ≡ c .spans .result
-spans-said c =
-    let s = c .before .before .before .before in
-    let a = s .args in
-    let n = passed-tests (sample-tests (a .east .now) (a .north .now) (a .room)) (sym (c .before .before .before .of-samples .ensures) ∙ c .before .enum-told .given .1) in
-    samples-span (a .a) (a .east .now) (a .north .now)
-    (eqb-true (length (a .east .now)) (length (a .north .now)) (not-false (eqb (length (a .east .now)) (length (a .north .now))) (n .0)))
-    ∙ ap (λ (z : ℤ). easts-span z (a .east .now)) (sym (toZ-ofZ (s .fits .a)))
-    ∙ sym (c .spans .ensures)
+module _ (c : tie.After-spans) where
+  abbrev start : tie.Start
+  start = c .before .before .before .before
+
+  abbrev es : List ℤ
+  es = start .args .east .now
+
+  abbrev ns : List ℤ
+  ns = start .args .north .now
+
+  even : length es ≡ length ns
+  even =
+      let n = passed-tests (sample-tests es ns (start .args .room)) (sym (c .before .before .before .of-samples .ensures) ∙ c .before .enum-told .given .1) in
+      eqb-true (length es) (length ns) (not-false (eqb (length es) (length ns)) (n .0))
+
+  spans-said : spans (start .args .a) (streams es ns) ≡ c .spans .result
+  spans-said =
+      samples-span (start .args .a) es ns even
+      ∙ ap (λ (z : ℤ). easts-span z es) (sym (toZ-ofZ (start .fits .a)))
+      ∙ sym (c .spans .ensures)
 
 returns : tie.Need-returns
 returns c = sym (after (c .before .before .before .before) (c .before .before .enum-told .given .1) ∙ ap six (spans-said (c .before) ∙ c .if1 .taken))

@@ -1,8 +1,7 @@
 -- `round::round` meets its promise: the tests refuse, or the round over the list in scratch says what the rules say. Assumes nothing.
 use mathlib.Core.Path.{_≡_, sym, ap, _∙_, subst}
-use mathlib.Core.List.{List, []}
-use mathlib.Core.Bool.{Bool, false}
-use Prim.Native.Nat.{ℕ}
+use mathlib.Core.Bool.{false}
+use mathlib.Core.List.{List}
 use native.Mathlib.Omega.{arith}
 use borrow.Author.Needs.{needs}
 use lib.IntN.{ℤ}
@@ -11,6 +10,7 @@ use mir.Syntax.{w32, w64}
 use mir.Val.{toZ, ofZ}
 use Rattle.whole.specs.Solver.{var}
 use Rattle.whole.specs.Fits.{[]ʷ, _∷ᶜ_, cast, step-fits, word-is}
+use Rattle.rules.specs.Refusals.{Test}
 use Rattle.samples.specs.declared.tests.Tested.the-variants as tests
 use Rattle.samples.specs.Positions.{at}
 use Rattle.samples.specs.Tests.{tested-of}
@@ -24,58 +24,69 @@ use Rattle.round.proofs.round.Tie as tie
 a-is : (s : tie.Start) → toZ w64 (ofZ w64 (toZ w32 (ofZ w32 (s .args .a)))) ≡ s .args .a
 a-is s = word-is w64 (cast (s .fits .a) ∷ᶜ []ʷ) (var 0) tt
 
--- what the tests say
-tests-said : (c : tie.After-tested) → tested-of (round-tests (c .before .before .before .before .args .east .now) (c .before .before .before .before .args .north .now) (c .before .before .before .before .args .list .now) (c .before .before .before .before .args .a) (length (c .before .before .before .before .args .scratch .now)))
-    ≡ c .tested .result
+-- the tests of what is given
+abbrev given-tests : tie.Start → List Test
+given-tests s = round-tests (s .args .east .now) (s .args .north .now) (s .args .list .now) (s .args .a) (length (s .args .scratch .now))
+
+tests-said : (c : tie.After-tested) → tested-of (given-tests (c .before .before .before .before)) ≡ c .tested .result
 tests-said c =
-    let a = c .before .before .before .before .args in
-    ap (λ (z : ℤ). tested-of (round-tests (a .east .now) (a .north .now) (a .list .now) z (length (a .scratch .now)))) (sym (a-is (c .before .before .before .before)))
+    let s = c .before .before .before .before in
+    let a = s .args in
+    ap (λ (z : ℤ). tested-of (round-tests (a .east .now) (a .north .now) (a .list .now) z (length (a .scratch .now)))) (sym (a-is s))
     ∙ sym (c .tested .ensures)
 
 returns : tie.Need-returns
 returns c =
-    let s = c .before .before .before .before .before .before .before .args in
-    refused-promise (s .east .now) (s .north .now) (s .list .now) (s .a) (s .output .now) (s .scratch .now) (tests-said (c .before .before .before) ∙ c .before .number .given .1)
+    let a = c .before .before .before .before .before .before .before .args in
+    let e = tests-said (c .before .before .before) ∙ c .before .number .given .1 in
+    refused-promise (a .east .now) (a .north .now) (a .list .now) (a .a) (a .output .now) (a .scratch .now) e
 
 -- what is known where the tests are passed
-module _ (c : tie.After-enum-told) where
+module _ (d : tie.After-enum-told) where
   abbrev start : tie.Start
-  start = c .before .before .before .before .before .before
+  start = d .before .before .before .before .before .before
 
-  passed : tested-of (round-tests (start .args .east .now) (start .args .north .now) (start .args .list .now) (start .args .a) (length (start .args .scratch .now))) ≡ tests.Passed
-  passed = tests-said (c .before .before) ∙ c .enum-told .given .1
+  passed : tested-of (given-tests start) ≡ tests.Passed
+  passed = tests-said (d .before .before) ∙ d .enum-told .given .1
 
   is-ready : Ready (start .args .east .now) (start .args .north .now) (start .args .list .now) (length (start .args .scratch .now))
-  is-ready = ready (start .args .east .now) (start .args .north .now) (start .args .list .now) (start .args .a) (length (start .args .scratch .now)) passed
+  is-ready =
+      let a = start .args in
+      ready (a .east .now) (a .north .now) (a .list .now) (a .a) (length (a .scratch .now)) passed
 
 write-requires : tie.Need-write-requires
 write-requires c κs = let r = is-ready (c .before) .large in omega arith
 
 round-of-requires : tie.Need-round-of-requires
-round-of-requires c κs = let d = c .before .before .before .before .before in round-asks (start d .args .scratch .now) (is-ready d) (c .before .before .before .write .ensures)
+round-of-requires c κs =
+    let d = c .before .before .before .before .before in
+    round-asks (start d .args .scratch .now) (is-ready d) (c .before .before .before .write .ensures)
 
 answered-requires : tie.Need-answered-requires
 answered-requires c κs =
-    let d = c .before .before .before .before .before .before .before .before .before .before in
+    let o = c .before .before .before .before in
+    let list = o .before .before .before .before in
+    let d = list .before .before in
     let r = is-ready d in
     let large = r .large in
-    let fewer = c .before .before .before .before .round-of .ensures .fewer in
-    let kept = c .before .before .before .before .round-of .kept .1 .1 .1 .1 .0 in
-    omega (arith, as-long (start d .args .scratch .now) r (c .before .before .before .before .before .before .before .before .write .ensures))
+    let fewer = o .round-of .ensures .fewer in
+    let kept = o .round-of .kept .1 .1 .1 .1 .0 in
+    omega (arith, as-long (start d .args .scratch .now) r (list .write .ensures))
 
 returns-2 : tie.Need-returns-2
 returns-2 c =
-    let d = c .before .before .before .before .before .before .before .before .before .before .before .before .before .before .before in
+    let said = c .before .before .before .before .before .before .before .before .before in
+    let o = said .round-of in
+    let list = said .before .before .before .before in
+    let d = list .before .before in
     let s = start d in
     let a = s .args in
-    let o = c .before .before .before .before .before .before .before .before .before .round-of in
-    let written-is = c .before .before .before .before .before .before .before .before .before .before .before .before .before .write .ensures in
     let left = o .last .1 .1 .1 .1 .0 in
-    let long = as-long (a .scratch .now) (is-ready d) written-is in
+    let places = at (a .east .now) (a .north .now) false in
+    let says = subst (λ (z : ℤ). RoundSays places z (list .write .last .1 .0) (length (a .list .now)) (o .result) left) (a-is s) (o .ensures) in
     passed-promise (a .east .now) (a .north .now) (a .list .now) (a .a) (a .output .now) (a .scratch .now) (passed d) (o .result) left
-    (o .kept .1 .1 .1 .1 .0 ∙ long)
-    (round-here (a .scratch .now) (is-ready d) written-is (a .a)
-    (subst (λ (z : ℤ). RoundSays (at (a .east .now) (a .north .now) false) z (c .before .before .before .before .before .before .before .before .before .before .before .before .before .write .last .1 .0) (length (a .list .now)) (o .result) left) (a-is s) (o .ensures)))
+    (o .kept .1 .1 .1 .1 .0 ∙ as-long (a .scratch .now) (is-ready d) (list .write .ensures))
+    (round-here (a .scratch .now) (is-ready d) (list .write .ensures) (a .a) says)
     (c .before .before .before .before .answered .ensures)
 
 pub round-spec : {M : Type 1} → statement M

@@ -1,10 +1,10 @@
 -- `round::tested` meets its contract: each return is the rules' tests in the order in which the code makes them. Assumes nothing.
-use mathlib.Core.Path.{_≡_, refl, sym, ap, ap₂, _∙_}
-use mathlib.Core.Bool.{Bool, true, false, not, _||_}
+use mathlib.Core.Path.{_≡_, sym, ap, ap₂, _∙_}
+use mathlib.Core.Bool.{Bool, false, not, _||_}
 use mathlib.Core.List.{List, [], _∷_, map}
-use Prim.Native.Nat.{ℕ, _+_, _*_, _≤_, _<_}
+use Prim.Native.Nat.{ℕ, _+_, _*_, _≤_}
 use borrow.Author.Needs.{needs}
-use borrow.Author.Tests.{lt-ltb, le-ltb, eq-eqb, ne-eqb, not-true, not-false}
+use borrow.Author.Tests.{lt-ltb, le-ltb, eq-eqb, ne-eqb}
 use lib.IntN.{ℤ}
 use lib.Dec.{leb, ltb}
 use lib.ListN.{length}
@@ -16,7 +16,7 @@ use Rattle.rules.specs.Refusals.{Test, test, lengths-differ, part-beyond}
 use Rattle.samples.specs.declared.tests.Tested.the-variants.{Refused}
 use Rattle.samples.specs.Positions.{east-of, easts-span}
 use Rattle.samples.specs.Samples.{place-inside, place-outside, unlisted-inside, unlisted-outside, listed, sample-list-span}
-use Rattle.samples.specs.Tests.{refused-at, passed-by}
+use Rattle.samples.specs.Tests.{None-hold, refused-at, passed-by}
 use Rattle.round.proofs.tested.Statement.{statement}
 use Rattle.round.proofs.tested.Tie as tie
 
@@ -63,7 +63,8 @@ module _ (c : tie.Else4) where
   past-3 : (t1 start-4 .holds ≡ false) × ((t2 start-4 .holds ≡ false) × (t3 start-4 .holds ≡ false))
   past-3 =
       let h = c .before .before .before .before .if1 .left in
-      (even start-4 h, (few start-4 (c .before .before .before .if2 .left) (c .before .before .if3 .left), place-outside (es start-4) (ns start-4) h (c .before .first-beyond .ensures) (c .if4 .left)))
+      let k = few start-4 (c .before .before .before .if2 .left) (c .before .before .if3 .left) in
+      (even start-4 h, (k, place-outside (es start-4) (ns start-4) h (c .before .first-beyond .ensures) (c .if4 .left)))
 
 module _ (c : tie.Else5) where
   abbrev start-5 : tie.Start
@@ -98,7 +99,8 @@ returns-4 c =
     let place = c .before .first-beyond .ensures in
     ap (Refused 3) place
     ∙ sym
-    (refused-at (t1 s ∷ t2 s ∷ []) (t3 s) (t7 s ∷ t4 s ∷ t6 s ∷ []) (even s h, (few s (c .before .before .before .if2 .left) (c .before .before .if3 .left), tt))
+    (refused-at (t1 s ∷ t2 s ∷ []) (t3 s) (t7 s ∷ t4 s ∷ t6 s ∷ [])
+    (even s h, (few s (c .before .before .before .if2 .left) (c .before .before .if3 .left), tt))
     (place-inside (es s) (ns s) h place (c .if4 .taken)))
 
 returns-5 : tie.Need-returns-5
@@ -120,46 +122,40 @@ returns-6 c =
     (lt-ltb (s .args .room) (16 * length (list s) + 64) (c .if6 .taken)))
 
 list-spans-requires : tie.Need-list-spans-requires
-list-spans-requires c κs = let s = c .before .before .before .before .before .before .before .before .before in listed (length (es s)) (list s) (past-7 (c .before))
+list-spans-requires c κs = let p = c .before in let s = start-5 p in listed (length (es s)) (list s) (past-7 p)
 
 -- what is found of the samples on either side of a
-spans-said : (c : tie.After-list-spans) → spans (c .before .before .before .before .before .before .before .before .before .before .args .a) (map (sample (streams (es (c .before .before .before .before .before .before .before .before .before .before)) (ns (c .before .before .before .before .before .before .before .before .before .before)))) (list (c .before .before .before .before .before .before .before .before .before .before))) ≡ c .list-spans .result
-spans-said c =
-    let s = c .before .before .before .before .before .before .before .before .before .before in
-    sample-list-span (s .args .a) (es s) (ns s) (list s) (c .before .before .before .before .before .before .before .before .if1 .left)
-    ∙ ap (λ (z : ℤ). easts-span z (map (east-of (es s)) (list s))) (sym (toZ-ofZ (s .fits .a)))
-    ∙ sym (c .list-spans .ensures)
+module _ (c : tie.After-list-spans) where
+  abbrev start-6 : tie.Start
+  start-6 = start-5 (c .before .before)
+
+  spans-said : spans (start-6 .args .a) (map (sample (streams (es start-6) (ns start-6))) (list start-6)) ≡ c .list-spans .result
+  spans-said =
+      sample-list-span (start-6 .args .a) (es start-6) (ns start-6) (list start-6) (c .before .before .before .before .before .before .before .before .if1 .left)
+      ∙ ap (λ (z : ℤ). easts-span z (map (east-of (es start-6)) (list start-6))) (sym (toZ-ofZ (start-6 .fits .a)))
+      ∙ sym (c .list-spans .ensures)
+
+  -- the tests before
+  past-4 : None-hold (t1 start-6 ∷ t2 start-6 ∷ t3 start-6 ∷ t7 start-6 ∷ t4 start-6 ∷ [])
+  past-4 =
+      let p = past-3 (c .before .before .before .before) in
+      let room = le-ltb (start-6 .args .room) (16 * length (list start-6) + 64) (c .before .if6 .left) in
+      (p .0, (p .1 .0, (p .1 .1, (past-7 (c .before .before), (room, tt)))))
 
 returns-7 : tie.Need-returns-7
 returns-7 c =
-    let s = c .before .before .before .before .before .before .before .before .before .before .before in
-    let p = past-3 (c .before .before .before .before .before) in
-    sym
-    (refused-at (t1 s ∷ t2 s ∷ t3 s ∷ t7 s ∷ t4 s ∷ []) (t6 s) []
-    (p .0, (p .1 .0, (p .1 .1, (past-7 (c .before .before .before), (le-ltb (s .args .room) (16 * length (list s) + 64) (c .before .before .if6 .left), tt)))))
-    (ap not (spans-said (c .before)) ∙ c .if7 .taken))
+    let d = c .before in
+    let s = start-6 d in
+    sym (refused-at (t1 s ∷ t2 s ∷ t3 s ∷ t7 s ∷ t4 s ∷ []) (t6 s) [] (past-4 d) (ap not (spans-said d) ∙ c .if7 .taken))
 
 returns-8 : tie.Need-returns-8
 returns-8 c =
-    let s = c .before .before .before .before .before .before .before .before .before .before .before in
-    let p = past-3 (c .before .before .before .before .before) in
+    let d = c .before in
+    let s = start-6 d in
+    let p = past-4 d in
     sym
-    (passed-by (t1 s ∷ t2 s ∷ t3 s ∷ t7 s ∷ t4 s ∷ t6 s ∷ []) (
-      p .0,
-      (
-        p .1 .0,
-        (
-          p .1 .1,
-          (
-            past-7 (c .before .before .before),
-            (
-              le-ltb (s .args .room) (16 * length (list s) + 64) (c .before .before .if6 .left),
-              (ap not (spans-said (c .before)) ∙ c .if7 .left, tt),
-            ),
-          ),
-        ),
-      ),
-    ))
+    (passed-by (t1 s ∷ t2 s ∷ t3 s ∷ t7 s ∷ t4 s ∷ t6 s ∷ [])
+    (p .0, (p .1 .0, (p .1 .1 .0, (p .1 .1 .1 .0, (p .1 .1 .1 .1 .0, (ap not (spans-said d) ∙ c .if7 .left, tt)))))))
 
 pub tested-spec : {M : Type 1} → statement M
 tested-spec =

@@ -1,23 +1,23 @@
 -- `round::core::finish` meets its contract: the tests of the tops' easts are the rules', and what is kept lies at the front. Assumes nothing.
-use mathlib.Core.Path.{_≡_, refl, sym, ap, ap₂, _∙_}
+use mathlib.Core.Path.{_≡_, sym, ap, ap₂, _∙_}
 use mathlib.Core.Logic.{⊎-elim}
 use mathlib.Core.Bool.{Bool}
-use mathlib.Core.List.{List, _++_}
+use mathlib.Core.List.{List}
 use Prim.Native.Nat.{ℕ, _≤_}
 use native.Mathlib.Omega.{arith}
 use borrow.Author.Needs.{needs, sfits-of}
 use lib.IntN.{ℤ}
 use lib.Signed.{leZ, ltZ}
-use lib.ListN.{length, getD, take, drop}
+use lib.ListN.{length, take, drop}
 use lib.Seq.{length-take-le, take-append-le}
 use mir.Syntax.{w64}
 use mir.Val.{toZ, ofZ}
 use mir.Facts.{toZ-ofZ}
 use Rattle.rules.specs.Streams.{Stream}
-use Rattle.rules.specs.Round.{Slope, Tops, paired, kept, keep, round-with}
+use Rattle.rules.specs.Round.{Slope, paired, kept, keep}
 use Rattle.slopes.specs.Fractions.{as-slope}
 use Rattle.samples.specs.Positions.{at}
-use Rattle.round.specs.Keeping.{towards, KeptFront}
+use Rattle.round.specs.Keeping.{towards}
 use Rattle.round.proofs.Rounding.{tops-found, tops-west, tops-east}
 use Rattle.round.proofs.core.finish.Statement.{statement}
 use Rattle.round.proofs.core.finish.Tie as tie

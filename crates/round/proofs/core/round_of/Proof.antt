@@ -1,7 +1,7 @@
 -- `round::core::round_of` meets its contract: two samples, no slope, or K among the slopes. Assumes nothing.
-use mathlib.Core.Path.{_≡_, refl, sym, ap, _∙_, subst}
+use mathlib.Core.Path.{_≡_, sym, ap, _∙_, subst}
 use mathlib.Core.List.{List}
-use Prim.Native.Nat.{ℕ, _+_, _-_, _<_}
+use Prim.Native.Nat.{ℕ, _-_, _<_}
 use native.Mathlib.Omega.{arith}
 use borrow.Author.Needs.{needs}
 use borrow.Rule.Slice.PartMut.{putMid, same-len-mid, take-put}
@@ -10,6 +10,7 @@ use lib.Seq.{length-take-le, getD-take, take-all}
 use lib.IntN.{ℤ}
 use mir.Facts.{toZ-ofZ}
 use Rattle.rules.specs.Streams.{Stream}
+use Rattle.rules.specs.Round.{Slope}
 use Rattle.slopes.specs.Fractions.{as-slope, Sound}
 use Rattle.samples.specs.Positions.{at, Listed}
 use Rattle.samples.specs.Samples.{listed-at}
@@ -35,7 +36,8 @@ returns : tie.Need-returns
 returns c =
     let s = c .before .before .before .before .before in
     let room = s .pre .room in
-    two-says (places-of s) (s .args .a) (s .args .w .now) (s .args .t) (omega arith) (c .before .before .before .if1 .taken) (c .two .result) (c .two .ensures)
+    let two = c .before .before .before .if1 .taken in
+    two-says (places-of s) (s .args .a) (s .args .w .now) (s .args .t) (omega arith) two (c .two .result) (c .two .ensures)
 
 keep-requires : tie.Need-keep-requires
 keep-requires c κs =
@@ -45,14 +47,6 @@ keep-requires c κs =
       listed = subst (Listed (length (s .args .e .now))) (sym (c .before .before .before .before .slopes .ensures .same-list)) (s .pre .listed);
       near = level-near;
     }
-
-returns-2 : tie.Need-returns-2
-returns-2 c =
-    let s = c .before .before .before .before .before .before .before .before .before .before .before in
-    let h = s .pre in
-    let room = h .room in
-    without-says (places-of s) (s .args .a) (s .args .w .now) (s .args .t) (omega arith) (h .two) (c .before .before .before .before .before .before .before .before .before .if1 .left)
-    (c .before .before .before .before .before .before .before .slopes .ensures) (c .before .before .before .before .if2 .taken) (c .before .before .keep .kept .1 .1 .1 .0) (c .before .before .keep .ensures)
 
 -- what is known once the slopes are written
 module _ (d : tie.After-slopes) where
@@ -87,25 +81,47 @@ pick-slope-requires c κs =
       room = omega (arith, long d, ap length (behind-is d), length-drop (t d) (w d));
     }
 
--- the list is as it was after the pick
-same-list : (c : tie.After-pick-slope) → take (t (c .before .before .before .before .before)) (putMid (t (c .before .before .before .before .before)) (length (w (c .before .before .before .before .before)) - t (c .before .before .before .before .before)) (w (c .before .before .before .before .before)) (c .pick-slope .last .0))
-    ≡ take (t (c .before .before .before .before .before)) (start (c .before .before .before .before .before) .args .w .now)
-same-list c =
-    let d = c .before .before .before .before .before in
-    let room = start d .pre .room in
-    take-put (t d) (length (w d) - t d) (w d) (c .pick-slope .last .0) (omega (arith, long d)) ∙ d .slopes .ensures .same-list
+returns-2 : tie.Need-returns-2
+returns-2 c =
+    let empty = c .before .before .before .before in
+    let d = empty .before .before .before in
+    let s = start d in
+    let h = s .pre in
+    let room = h .room in
+    let k = c .before .before .keep in
+    let more = d .before .before .if1 .left in
+    without-says (places-of s) (s .args .a) (s .args .w .now) (t d) (omega arith) (h .two) more (d .slopes .ensures)
+    (empty .if2 .taken) (k .kept .1 .1 .1 .0) (k .ensures)
+
+-- what is known once K is picked
+module _ (c : tie.After-pick-slope) where
+  abbrev sloped : tie.After-slopes
+  sloped = c .before .before .before .before .before
+
+  abbrev K : Slope
+  K = as-slope (c .pick-slope .result)
+
+  -- the scratch as it is then
+  abbrev after : List ℕ
+  after = putMid (t sloped) (length (w sloped) - t sloped) (w sloped) (c .pick-slope .last .0)
+
+  -- the list is as it was
+  same-list : take (t sloped) after ≡ take (t sloped) (start sloped .args .w .now)
+  same-list =
+      let room = start sloped .pre .room in
+      take-put (t sloped) (length (w sloped) - t sloped) (w sloped) (c .pick-slope .last .0) (omega (arith, long sloped))
+      ∙ sloped .slopes .ensures .same-list
 
 finish-requires : tie.Need-finish-requires
 finish-requires c κs =
     let p = c .before .before .before in
-    let d = p .before .before .before .before .before in
-    let s = start d in
-    let h = s .pre in
+    let d = sloped p in
+    let h = start d .pre in
     let room = h .room in
     let two = h .two in
     record {
       sampled = h .sampled;
-      listed = subst (Listed (length (s .args .e .now))) (sym (same-list p)) (h .listed);
+      listed = subst (Listed (length (start d .args .e .now))) (sym (same-list p)) (h .listed);
       one = omega arith;
       room = omega (arith, long d, same-len-mid (t d) (length (w d) - t d) (w d) (p .pick-slope .last .0) (p .pick-slope .kept .0));
       near = p .pick-slope .ensures .near;
@@ -114,15 +130,16 @@ finish-requires c κs =
 returns-3 : tie.Need-returns-3
 returns-3 c =
     let p = c .before .before .before .before .before .before in
-    let d = p .before .before .before .before .before in
+    let d = sloped p in
     let s = start d in
     let h = s .pre in
     let room = h .room in
-    let after = putMid (t d) (length (w d) - t d) (w d) (p .pick-slope .last .0) in
-    let left = c .before .before .finish .last .1 .1 .1 .1 .0 in
-    picked-says (places-of s) (s .args .a) (s .args .w .now) (t d) (omega arith) (h .two) (c .before .before .before .before .before .before .before .before .before .before .before .before .before .if1 .left) (d .slopes .ensures) (omega arith)
-    (as-slope (p .pick-slope .result)) (behind d) (p .pick-slope .ensures) (behind-is d) after left (c .before .before .finish .result) (same-list p)
-    (subst (λ (a : ℤ). FinishSays (places-of s) a (as-slope (p .pick-slope .result)) after (t d) (c .before .before .finish .result) left) (toZ-ofZ (s .fits .a)) (c .before .before .finish .ensures))
+    let f = c .before .before .finish in
+    let left = f .last .1 .1 .1 .1 .0 in
+    let more = d .before .before .if1 .left in
+    picked-says (places-of s) (s .args .a) (s .args .w .now) (t d) (omega arith) (h .two) more (d .slopes .ensures) (omega arith)
+    (K p) (behind d) (p .pick-slope .ensures) (behind-is d) (after p) left (f .result) (same-list p)
+    (subst (λ (a : ℤ). FinishSays (places-of s) a (K p) (after p) (t d) (f .result) left) (toZ-ofZ (s .fits .a)) (f .ensures))
 
 pub round-of-spec : {M : Type 1} → statement M
 round-of-spec =
@@ -134,7 +151,7 @@ round-of-spec =
     returns
     (λ c κs. search needs)
     (λ c. search needs)
-    (λ c. sym (length-take-le (t (c .before .before .before .before)) (w (c .before .before .before .before)) (let room = start (c .before .before .before .before) .pre .room in omega (arith, long (c .before .before .before .before)))))
+    (λ c. let d = c .before .before .before .before in let room = start d .pre .room in sym (length-take-le (t d) (w d) (omega (arith, long d))))
     keep-requires
     (λ c. search needs)
     returns-2

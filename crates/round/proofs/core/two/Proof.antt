@@ -1,8 +1,9 @@
 -- `round::core::two` meets its contract. Assumes nothing.
-use mathlib.Core.Path.{_≡_, refl, sym, ap₂, _∙_}
-use mathlib.Core.Bool.{Bool}
+use mathlib.Core.Path.{_≡_, sym, ap₂, _∙_}
 use borrow.Author.Needs.{needs, sfits-of}
 use lib.Signed.{ltZ}
+use mir.Syntax.{w64}
+use mir.Val.{toZ, ofZ}
 use mir.Facts.{toZ-ofZ}
 use Rattle.samples.specs.Positions.{east-of}
 use Rattle.round.proofs.core.two.Statement.{statement}
@@ -10,7 +11,7 @@ use Rattle.round.proofs.core.two.Tie as tie
 
 -- the test of the two easts
 tested : (c : tie.After-east2)
-    → ltZ (mir.Val.toZ mir.Syntax.w64 (mir.Val.ofZ mir.Syntax.w64 (c .before .east .result))) (mir.Val.toZ mir.Syntax.w64 (mir.Val.ofZ mir.Syntax.w64 (c .east2 .result)))
+    → ltZ (toZ w64 (ofZ w64 (c .before .east .result))) (toZ w64 (ofZ w64 (c .east2 .result)))
     ≡ ltZ (east-of (c .before .before .args .e .now) (c .before .before .args .x)) (east-of (c .before .before .args .e .now) (c .before .before .args .y))
 tested c = ap₂ ltZ (toZ-ofZ (sfits-of (c .before .east .ok)) ∙ c .before .east .ensures) (toZ-ofZ (sfits-of (c .east2 .ok)) ∙ c .east2 .ensures)
 

@@ -1,8 +1,8 @@
 -- `round::keep::keep` meets its contract: the loop keeps at the front what the pairs passed keep. Assumes nothing.
-use mathlib.Core.Path.{_≡_, sym, subst}
+use mathlib.Core.Path.{sym, subst}
 use Prim.Native.Nat.{ℕ, _+_, _-_, _<_}
 use native.Mathlib.Omega.{arith}
-use lib.ListN.{length, getD, length-set}
+use lib.ListN.{length, length-set}
 use Rattle.slopes.specs.Fractions.{as-slope}
 use Rattle.samples.specs.Positions.{at}
 use Rattle.samples.specs.Samples.{listed-at}

@@ -1,16 +1,15 @@
 -- `round::keep::of_pair` meets its contract: each return is what the tested orders leave of the pair. Assumes nothing.
-use mathlib.Core.Path.{_≡_, refl, sym, ap, ap₂, _∙_, subst}
-use mathlib.Core.Bool.{Bool, true, false, not}
+use mathlib.Core.Path.{_≡_, sym, ap, ap₂, _∙_, subst}
+use mathlib.Core.Bool.{Bool, true, not}
 use Prim.Native.Nat.{ℕ, _^_, _<_}
 use borrow.Author.Needs.{needs, sfits-of}
 use lib.IntN.{ℤ, pos}
 use lib.Signed.{mag, ltZ}
-use lib.ListN.{length}
 use mir.Syntax.{w64}
 use mir.Val.{toZ, ofZ}
 use mir.Facts.{toZ-ofZ}
 use Rattle.rules.specs.Streams.{Stream}
-use Rattle.rules.specs.Round.{Tops, Slope, pair, west, east, keeps}
+use Rattle.rules.specs.Round.{Slope, pair, east, keeps}
 use Rattle.slopes.specs.Fractions.{as-slope}
 use Rattle.samples.specs.Positions.{Near, at}
 use Rattle.samples.specs.Samples.{near-at}
@@ -33,8 +32,17 @@ read z h e = toZ-ofZ (sfits-of {w = w64} h) ∙ e
 
 -- what is known where the easts are first compared
 module _ (d : tie.After-struct-told2) where
+  abbrev found : tie.After-excess
+  found = d .before .before .before .before
+
+  abbrev second : tie.After-position-of2
+  second = found .before
+
+  abbrev first : tie.After-position-of
+  first = second .before
+
   abbrev start : tie.Start
-  start = d .before .before .before .before .before .before .before
+  start = first .before
 
   abbrev places : ℕ → Stream
   places = at (start .args .e .now) (start .args .n .now) (start .args .lower)
@@ -48,45 +56,47 @@ module _ (d : tie.After-struct-told2) where
   abbrev y : ℕ
   y = start .args .y
 
-  first-is : d .before .before .before .before .before .before .position-of .result .east ≡ places x .east
-  first-is = ap (λ (s : Stream). s .east) (d .before .before .before .before .before .before .position-of .ensures)
+  -- the numbers of the two positions, as words
+  first-east : toZ w64 (ofZ w64 (first .position-of .result .east)) ≡ places x .east
+  first-east =
+      read (first .position-of .result .east) (d .before .before .struct-told .given .0 .1) (ap (λ (s : Stream). s .east) (first .position-of .ensures))
 
-  second-is : d .before .before .before .before .before .position-of2 .result .east ≡ places y .east
-  second-is = ap (λ (s : Stream). s .east) (d .before .before .before .before .before .position-of2 .ensures)
+  second-east : toZ w64 (ofZ w64 (second .position-of2 .result .east)) ≡ places y .east
+  second-east = read (second .position-of2 .result .east) (d .struct-told2 .given .0 .1) (ap (λ (s : Stream). s .east) (second .position-of2 .ensures))
 
-  abbrev first-word : ℤ
-  first-word = toZ w64 (ofZ w64 (d .before .before .before .before .before .before .position-of .result .east))
+  first-north : toZ w64 (ofZ w64 (first .position-of .result .north)) ≡ places x .north
+  first-north =
+      read (first .position-of .result .north) (d .before .before .struct-told .given .1 .0 .1) (ap (λ (s : Stream). s .north) (first .position-of .ensures))
 
-  abbrev second-word : ℤ
-  second-word = toZ w64 (ofZ w64 (d .before .before .before .before .before .position-of2 .result .east))
+  second-north : toZ w64 (ofZ w64 (second .position-of2 .result .north)) ≡ places y .north
+  second-north =
+      read (second .position-of2 .result .north) (d .struct-told2 .given .1 .0 .1) (ap (λ (s : Stream). s .north) (second .position-of2 .ensures))
 
-  easts : (ltZ first-word second-word ≡ ltZ (places x .east) (places y .east)) × (ltZ second-word first-word ≡ ltZ (places y .east) (places x .east))
-  easts =
-      let p = read (d .before .before .before .before .before .before .position-of .result .east) (d .before .before .struct-told .given .0 .1) first-is in
-      let q = read (d .before .before .before .before .before .position-of2 .result .east) (d .struct-told2 .given .0 .1) second-is in
-      (ap₂ ltZ p q, ap₂ ltZ q p)
-
-  over-is : toZ w64 (ofZ w64 (d .before .before .before .before .excess .result)) ≡ excess K (places x) (places y)
+  over-is : toZ w64 (ofZ w64 (found .excess .result)) ≡ excess K (places x) (places y)
   over-is =
-      read (d .before .before .before .before .excess .result) (d .before .before .before .before .excess .ok)
-      (d .before .before .before .before .excess .ensures ∙ ap₂ (excess K) (d .before .before .before .before .before .before .position-of .ensures) (d .before .before .before .before .before .position-of2 .ensures))
+      read (found .excess .result) (found .excess .ok)
+      (found .excess .ensures ∙ ap₂ (excess K) (first .position-of .ensures) (second .position-of2 .ensures))
 
-  below : ltZ (excess K (places x) (places y)) (pos 0) ≡ ltZ (toZ w64 (ofZ w64 (d .before .before .before .before .excess .result))) (pos 0)
+  -- the tests
+  rising : ltZ (places x .east) (places y .east)
+      ≡ ltZ (toZ w64 (ofZ w64 (first .position-of .result .east))) (toZ w64 (ofZ w64 (second .position-of2 .result .east)))
+  rising = sym (ap₂ ltZ first-east second-east)
+
+  falling : ltZ (places y .east) (places x .east)
+      ≡ ltZ (toZ w64 (ofZ w64 (second .position-of2 .result .east))) (toZ w64 (ofZ w64 (first .position-of .result .east)))
+  falling = sym (ap₂ ltZ second-east first-east)
+
+  norths : ltZ (places x .north) (places y .north)
+      ≡ ltZ (toZ w64 (ofZ w64 (first .position-of .result .north))) (toZ w64 (ofZ w64 (second .position-of2 .result .north)))
+  norths = sym (ap₂ ltZ first-north second-north)
+
+  below : ltZ (excess K (places x) (places y)) (pos 0) ≡ ltZ (toZ w64 (ofZ w64 (found .excess .result))) (pos 0)
   below = ap (λ (z : ℤ). ltZ z (pos 0)) (sym over-is)
 
-  above : ltZ (pos 0) (excess K (places x) (places y)) ≡ ltZ (pos 0) (toZ w64 (ofZ w64 (d .before .before .before .before .excess .result)))
+  above : ltZ (pos 0) (excess K (places x) (places y)) ≡ ltZ (pos 0) (toZ w64 (ofZ w64 (found .excess .result)))
   above = ap (ltZ (pos 0)) (sym over-is)
 
-  -- the norths, and the side that the tops lie on
-  norths : ltZ (places x .north) (places y .north)
-      ≡ ltZ (toZ w64 (ofZ w64 (d .before .before .before .before .before .before .position-of .result .north))) (toZ w64 (ofZ w64 (d .before .before .before .before .before .position-of2 .result .north)))
-  norths =
-      sym
-      (ap₂
-      ltZ
-      (read (d .before .before .before .before .before .before .position-of .result .north) (d .before .before .struct-told .given .1 .0 .1) (ap (λ (s : Stream). s .north) (d .before .before .before .before .before .before .position-of .ensures)))
-      (read (d .before .before .before .before .before .position-of2 .result .north) (d .struct-told2 .given .1 .0 .1) (ap (λ (s : Stream). s .north) (d .before .before .before .before .before .position-of2 .ensures))))
-
+  -- the side that the tops lie on
   side : {l b : Bool} → l ≡ b → keeps places (towards l K) (pair x y) ≡ keeps places (towards b K) (pair x y)
   side p = ap (λ (l : Bool). keeps places (towards l K) (pair x y)) p
 
@@ -94,34 +104,35 @@ returns : tie.Need-returns
 returns c =
     let d = c .before .before in
     side d (c .if2 .taken)
-    ∙ west-pair-west (places d) (K d) (x d) (y d) (sym (easts d .0) ∙ c .before .if1 .taken)
+    ∙ west-pair-west (places d) (K d) (x d) (y d) (rising d ∙ c .before .if1 .taken)
     ∙ ap (λ (b : Bool). chosen b true (x d) (y d)) (below d)
 
 returns-2 : tie.Need-returns-2
 returns-2 c =
     let d = c .before .before in
     side d (c .if2 .left)
-    ∙ west-pair-east (places d) (K d) (x d) (y d) (sym (easts d .0) ∙ c .before .if1 .taken)
+    ∙ west-pair-east (places d) (K d) (x d) (y d) (rising d ∙ c .before .if1 .taken)
     ∙ ap (λ (b : Bool). chosen true b (x d) (y d)) (above d)
 
 returns-3 : tie.Need-returns-3
 returns-3 c =
     let d = c .before .before .before .before .before .before .before in
     side d (c .if4 .taken)
-    ∙ east-pair-west (places d) (K d) (x d) (y d) (sym (easts d .0) ∙ c .before .before .before .before .before .before .if1 .left) (sym (easts d .1) ∙ c .before .if3 .taken)
+    ∙ east-pair-west (places d) (K d) (x d) (y d) (rising d ∙ c .before .before .before .before .before .before .if1 .left) (falling d ∙ c .before .if3 .taken)
     ∙ ap (λ (b : Bool). chosen true b (x d) (y d)) (above d)
 
 returns-4 : tie.Need-returns-4
 returns-4 c =
     let d = c .before .before .before .before .before .before .before in
     side d (c .if4 .left)
-    ∙ east-pair-east (places d) (K d) (x d) (y d) (sym (easts d .0) ∙ c .before .before .before .before .before .before .if1 .left) (sym (easts d .1) ∙ c .before .if3 .taken)
+    ∙ east-pair-east (places d) (K d) (x d) (y d) (rising d ∙ c .before .before .before .before .before .before .if1 .left) (falling d ∙ c .before .if3 .taken)
     ∙ ap (λ (b : Bool). chosen b true (x d) (y d)) (below d)
 
 returns-5 : tie.Need-returns-5
 returns-5 c =
     let d = c .before .before .before .before .before .before .before .before .before .before in
-    upright-pair (places d) (K d) (x d) (y d) (sym (easts d .0) ∙ c .before .before .before .before .before .before .before .before .before .if1 .left) _ (sym (easts d .1) ∙ c .before .before .before .before .if3 .left)
+    upright-pair (places d) (K d) (x d) (y d) (rising d ∙ c .before .before .before .before .before .before .before .before .before .if1 .left) _
+    (falling d ∙ c .before .before .before .before .if3 .left)
     ∙ ap (λ (b : Bool). chosen (not b) b (x d) (y d)) (norths d)
 
 pub of-pair-spec : {M : Type 1} → statement M

@@ -1,18 +1,18 @@
 -- `round::pairs::slope_between` meets its contract: the differences fit, and with the rise moved up by 2,000,000 none of the words is below 0.
 -- Assumes nothing.
-use mathlib.Core.Path.{_≡_, sym, ap, ap₂, _∙_, subst₂}
+use mathlib.Core.Path.{_≡_, sym, _∙_, subst₂}
 use mathlib.Core.Bool.{Bool, true, false}
-use mathlib.Core.List.{List, [], _∷_}
+use mathlib.Core.List.{[], _∷_}
 use Rattle.rules.specs.Streams.{Stream}
-use mathlib.Core.Logic.{_⊎_, inl, inr, ⊎-elim}
-use lib.IntN.{ℤ, pos, natAbs, negℤ, _+ℤ_, _-ℤ_}
+use mathlib.Core.Logic.{⊎-elim}
+use lib.IntN.{ℤ, pos, negℤ, _-ℤ_}
 use lib.Signed.{_≤ℤ_, _<ℤ_, ltZ}
 use mir.Syntax.{w64}
 use Rattle.whole.specs.Linear.{order, difference, negation}
 use Rattle.whole.specs.Laws.{≤ℤ-split}
 use Rattle.whole.specs.Solver.{var, num, _⊕_, _⊖_, ⊝_}
 use Rattle.whole.specs.Fits.{step-fits, word, lt-is}
-use Rattle.samples.specs.Positions.{Near, place}
+use Rattle.samples.specs.Positions.{Near}
 use Rattle.round.specs.Slopes.{PairSlope}
 use Rattle.round.proofs.Words.{two-leaves, cast-unsigned, unsigned-is}
 use Rattle.round.proofs.Pairing.{up-to-first, up-to-second, slope-west, slope-east, no-slope}

@@ -19,7 +19,8 @@ slope-between-requires c κs =
 returns : tie.Need-returns
 returns c =
     let f = c .slope-between in
-    subst₂ (λ (p q : Stream). PairSlope p q (f .result .rise) (f .result .run)) (c .before .before .position-of .ensures) (c .before .position-of2 .ensures)
+    subst₂ (λ (p q : Stream). PairSlope p q (f .result .rise) (f .result .run))
+    (c .before .before .position-of .ensures) (c .before .position-of2 .ensures)
     (f .ensures)
 
 pub slope-of-pair-spec : {M : Type 1} → statement M

@@ -1,8 +1,8 @@
 -- `round::pairs::slopes` meets its contract: the loop keeps the slopes of the pairs passed behind the list. Assumes nothing.
-use Prim.Native.Nat.{ℕ, _+_, _*_, _-_, _<_}
-use mathlib.Core.Path.{_≡_, sym, subst}
+use Prim.Native.Nat.{ℕ, _+_, _-_, _<_}
+use mathlib.Core.Path.{sym, subst}
 use native.Mathlib.Omega.{arith}
-use lib.ListN.{length, length-set}
+use lib.ListN.{length, getD, length-set}
 use lib.Seq.{length-take-le}
 use Rattle.samples.specs.Positions.{at}
 use Rattle.samples.specs.Samples.{listed-at}
@@ -18,7 +18,7 @@ abbrev μ-loop : tie.MeasureT-loop
 
 -- a number of the list is below the count
 below : (c : tie.At-loop Inv-loop μ-loop) (j : ℕ) → j < c .before .before .args .t
-    → lib.ListN.getD (c .loop .w) j 0 < length (c .before .before .args .e .now)
+    → getD (c .loop .w) j 0 < length (c .before .before .args .e .now)
 below c j h =
     let s = c .before .before in
     let a = s .args in

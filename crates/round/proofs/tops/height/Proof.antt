@@ -1,10 +1,7 @@
 -- `round::tops::height` meets its contract: the products fit 64 bits. Assumes nothing.
-use mathlib.Core.List.{List, [], _∷_}
-use lib.IntN.{ℤ}
-use mir.Syntax.{w32, w64}
-use mir.Val.{toZ, ofZ}
+use mir.Syntax.{w64}
 use Rattle.whole.specs.Solver.{var, _⊖_, _⊗_}
-use Rattle.whole.specs.Fits.{Leaves, step-fits, word-is}
+use Rattle.whole.specs.Fits.{step-fits, word-is}
 use Rattle.rules.specs.Round.{height}
 use Rattle.round.proofs.Words.{height-leaves}
 use Rattle.round.proofs.tops.height.Statement.{statement}

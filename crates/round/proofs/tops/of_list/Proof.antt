@@ -1,13 +1,12 @@
 -- `round::tops::of_list` meets its contract: the loop carries the tops of the samples passed. Assumes nothing.
-use mathlib.Core.Path.{_≡_, sym, ap, _∙_, subst}
+use mathlib.Core.Path.{sym, ap, _∙_, subst}
 use Prim.Native.Nat.{_-_}
 use native.Mathlib.Omega.{arith}
 use borrow.Author.Needs.{needs}
-use lib.ListN.{length, getD}
+use lib.ListN.{length}
 use Rattle.slopes.specs.Fractions.{as-slope}
 use Rattle.samples.specs.Positions.{at}
 use Rattle.samples.specs.Samples.{listed-at}
-use Rattle.round.specs.declared.tops.Tops.{Tops}
 use Rattle.round.specs.Tops.{better-of}
 use Rattle.round.proofs.Topping.{Topping, topping-first, topping-more, topping-all}
 use Rattle.round.proofs.tops.of_list.Statement.{statement}

@@ -1,5 +1,4 @@
 -- `samples::tests::both` meets its contract. Assumes nothing.
-use mathlib.Core.Path.{refl}
 use native.Mathlib.Omega.{arith}
 use borrow.Author.Tests.{lt-ltb, le-ltb}
 use Rattle.samples.proofs.tests.both.Statement.{statement}

@@ -2,7 +2,7 @@
 use mathlib.Core.Path.{_≡_, refl, sym, ap, ap₂, _∙_}
 use mathlib.Core.Bool.{Bool, true, false, not, _&&_, _||_}
 use mathlib.Core.List.{List}
-use Prim.Native.Nat.{ℕ, _-_, _^_, _≤_, _<_}
+use Prim.Native.Nat.{ℕ, _-_, _^_, _<_}
 use native.Mathlib.Omega.{arith}
 use borrow.Author.Needs.{needs, sfits-of}
 use mir.Syntax.{w32}
@@ -37,42 +37,47 @@ beyond-by e n i h b c p q = ap beyond (sample-at e n h i) ∙ go (within (getD e
 said : (z : ℤ) {t b : Bool} → mag z < 2 ^ 31 → t ≡ not (within (toZ w32 (ofZ w32 z))) → t ≡ b → not (within z) ≡ b
 said z h e f = ap (λ (y : ℤ). not (within y)) (sym (toZ-ofZ (sfits-of {w = w32} h))) ∙ sym e ∙ f
 
-or-true : (b : Bool) → (b || true) ≡ true
-or-true true = refl
-or-true false = refl
-
 returns : tie.Need-returns Inv-loop μ-loop
 returns c =
-    let s = c .before .before .before .before .before in
-    let i = c .before .before .before .before .loop .i in
+    let l = c .before .before .before .before in
+    let s = l .before in
     let e = s .args .e .now in
     let n = s .args .n .now in
+    let i = l .loop .i in
+    let east = said (getD e i (pos 0)) (c .before .before .part-beyond-arg .given) (c .before .part-beyond .ensures) (c .if1 .taken) in
     passed-here beyond (stream (pos 0) (pos 0)) (streams e n) i (omega (arith, streams-length e n (s .pre)))
-    (beyond-by e n i (s .pre) true _ (said (getD e i (pos 0)) (c .before .before .part-beyond-arg .given) (c .before .part-beyond .ensures) (c .if1 .taken)) refl)
-    (c .before .before .before .before .loop .inv)
+    (beyond-by e n i (s .pre) true _ east refl) (l .loop .inv)
+
+-- what is known of the east part past its test
+module _ (c : tie.Else1 Inv-loop μ-loop) where
+  abbrev at-loop : tie.At-loop Inv-loop μ-loop
+  at-loop = c .before .before .before .before
+
+  east-within : not (within (getD (at-loop .before .args .e .now) (at-loop .loop .i) (pos 0))) ≡ false
+  east-within =
+      said (getD (at-loop .before .args .e .now) (at-loop .loop .i) (pos 0)) (c .before .before .part-beyond-arg .given) (c .before .part-beyond .ensures) (c .if1 .left)
 
 returns-2 : tie.Need-returns-2 Inv-loop μ-loop
 returns-2 c =
-    let s = c .before .before .before .before .before .before .before .before in
-    let i = c .before .before .before .before .before .before .before .loop .i in
+    let l = at-loop (c .before .before .before) in
+    let s = l .before in
     let e = s .args .e .now in
     let n = s .args .n .now in
+    let i = l .loop .i in
+    let north = said (getD n i (pos 0)) (c .before .before .part-beyond-arg2 .given) (c .before .part-beyond2 .ensures) (c .if2 .taken) in
     passed-here beyond (stream (pos 0) (pos 0)) (streams e n) i (omega (arith, streams-length e n (s .pre)))
-    (beyond-by e n i (s .pre) _ true refl (said (getD n i (pos 0)) (c .before .before .part-beyond-arg2 .given) (c .before .part-beyond2 .ensures) (c .if2 .taken))
-    ∙ or-true (not (within (getD e i (pos 0)))))
-    (c .before .before .before .before .before .before .before .loop .inv)
+    (beyond-by e n i (s .pre) false true (east-within (c .before .before .before)) north) (l .loop .inv)
 
 loop-again : tie.Need-loop-again Inv-loop μ-loop
 loop-again c =
-    let s = c .before .before .before .before .before .before .before .before in
-    let i = c .before .before .before .before .before .before .before .loop .i in
+    let l = at-loop (c .before .before .before) in
+    let s = l .before in
     let e = s .args .e .now in
     let n = s .args .n .now in
+    let i = l .loop .i in
+    let north = said (getD n i (pos 0)) (c .before .before .part-beyond-arg2 .given) (c .before .part-beyond2 .ensures) (c .if2 .left) in
     passed-more beyond (stream (pos 0) (pos 0)) (streams e n) i (omega (arith, streams-length e n (s .pre)))
-    (beyond-by e n i (s .pre) false false
-    (said (getD e i (pos 0)) (c .before .before .before .before .before .part-beyond-arg .given) (c .before .before .before .before .part-beyond .ensures) (c .before .before .before .if1 .left))
-    (said (getD n i (pos 0)) (c .before .before .part-beyond-arg2 .given) (c .before .part-beyond2 .ensures) (c .if2 .left)))
-    (c .before .before .before .before .before .before .before .loop .inv)
+    (beyond-by e n i (s .pre) false false (east-within (c .before .before .before)) north) (l .loop .inv)
 
 returns-3 : tie.Need-returns-3 Inv-loop μ-loop
 returns-3 c =

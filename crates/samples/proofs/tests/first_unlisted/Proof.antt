@@ -1,5 +1,5 @@
 -- `samples::tests::first_unlisted` meets its contract: the loop has passed the numbers below the count. Assumes nothing.
-use Prim.Native.Nat.{ℕ, _-_}
+use Prim.Native.Nat.{_-_}
 use native.Mathlib.Omega.{arith}
 use borrow.Author.Needs.{needs}
 use borrow.Author.Tests.{le-leb, lt-leb}
@@ -19,13 +19,15 @@ returns : tie.Need-returns Inv-loop μ-loop
 returns c =
     let l = c .before .before .before in
     let a = l .before .args in
-    passed-here (λ x. leb (a .count) x) 0 (a .list .now) (l .loop .i) (omega arith) (le-leb (a .count) (getD (a .list .now) (l .loop .i) 0) (c .if1 .taken)) (l .loop .inv)
+    let x = getD (a .list .now) (l .loop .i) 0 in
+    passed-here (λ x. leb (a .count) x) 0 (a .list .now) (l .loop .i) (omega arith) (le-leb (a .count) x (c .if1 .taken)) (l .loop .inv)
 
 loop-again : tie.Need-loop-again Inv-loop μ-loop
 loop-again c =
     let l = c .before .before .before in
     let a = l .before .args in
-    passed-more (λ x. leb (a .count) x) 0 (a .list .now) (l .loop .i) (omega arith) (lt-leb (a .count) (getD (a .list .now) (l .loop .i) 0) (c .if1 .left)) (l .loop .inv)
+    let x = getD (a .list .now) (l .loop .i) 0 in
+    passed-more (λ x. leb (a .count) x) 0 (a .list .now) (l .loop .i) (omega arith) (lt-leb (a .count) x (c .if1 .left)) (l .loop .inv)
 
 pub first-unlisted-spec : {M : Type 1} → statement M
 first-unlisted-spec =

@@ -1,14 +1,14 @@
 -- `samples::tests::list_spans` meets its contract: the loop counts the listed easts on either side of a. Assumes nothing.
 use mathlib.Core.Path.{_≡_, sym, ap, ap₂, _∙_}
-use mathlib.Core.Bool.{Bool, _&&_}
+use mathlib.Core.Bool.{_&&_}
 use mathlib.Core.List.{List, map}
-use Prim.Native.Nat.{ℕ, _-_, _<_}
+use Prim.Native.Nat.{ℕ, _-_}
 use native.Mathlib.Omega.{arith}
 use borrow.Author.Needs.{needs, sfits-of}
 use mir.Syntax.{w64}
 use mir.Val.{toZ, ofZ}
 use mir.Facts.{toZ-ofZ}
-use lib.IntN.{ℤ, pos}
+use lib.IntN.{ℤ}
 use lib.Signed.{leZ, ltZ}
 use lib.ListN.{length, getD, length-map, List·getD-map}
 use Rattle.samples.specs.Positions.{east-of, easts-span}

@@ -25,7 +25,12 @@ returns-3 c =
     let ns = a .n .now in
     let even = c .before .before .before .if1 .left in
     let place = c .before .first-beyond .ensures in
-    simp (eq-eqb (length es) (length ns) even, le-ltb most (length es) (c .before .before .if2 .left), place-inside es ns even place (c .if3 .taken)) (ap (Refused 3) place)
+    simp (
+      eq-eqb (length es) (length ns) even,
+      le-ltb most (length es) (c .before .before .if2 .left),
+      place-inside es ns even place (c .if3 .taken),
+    )
+    (ap (Refused 3) place)
 
 returns-4 : tie.Need-returns-4
 returns-4 c =

@@ -1,8 +1,7 @@
 -- `samples::tests::spans` meets its contract: the loop counts the easts on either side of a. Assumes nothing.
-use mathlib.Core.Path.{_≡_, sym, ap, ap₂, _∙_}
-use mathlib.Core.Bool.{Bool, _&&_}
-use mathlib.Core.List.{List}
-use Prim.Native.Nat.{ℕ, _-_}
+use mathlib.Core.Path.{ap, ap₂, _∙_}
+use mathlib.Core.Bool.{_&&_}
+use Prim.Native.Nat.{_-_}
 use native.Mathlib.Omega.{arith}
 use borrow.Author.Needs.{needs, sfits-of}
 use mir.Syntax.{w32}
@@ -10,7 +9,7 @@ use mir.Val.{toZ, ofZ}
 use mir.Facts.{toZ-ofZ}
 use lib.IntN.{ℤ, pos}
 use lib.Signed.{leZ, ltZ}
-use lib.ListN.{length, getD}
+use lib.ListN.{length}
 use Rattle.samples.specs.Positions.{easts-span}
 use Rattle.samples.specs.Scans.{Seen, seen-none, seen-more, seen-all}
 use Rattle.samples.proofs.tests.spans.Statement.{statement}

@@ -1,7 +1,7 @@
 -- `samples::words::write` meets its contract: the loop keeps the front of the result over the output. Assumes nothing.
-use mathlib.Core.Path.{_≡_, sym, ap, ap₂, _∙_}
+use mathlib.Core.Path.{_≡_, sym, ap, _∙_}
 use mathlib.Core.List.{List, _++_}
-use Prim.Native.Nat.{ℕ, suc, _+_, _-_, _≤_}
+use Prim.Native.Nat.{ℕ, suc, _-_, _≤_}
 use native.Mathlib.Nat.{zero-add}
 use native.Mathlib.Numerals.{add-one}
 use native.Mathlib.Omega.{arith}
@@ -53,7 +53,9 @@ write-spec =
     (tie.spec
     Inv-loop
     μ-loop
-    (λ c. (omega arith, sym (front (c .args .output .now) (c .args .result .now) 0) ∙ paste-zero (c .args .output .now) 0 (c .args .result .now), omega arith))
+    (λ c. let o = c .args .output .now in
+    let r = c .args .result .now in
+    (omega arith, sym (front o r 0) ∙ paste-zero o 0 r, omega arith))
     (λ c. search needs)
     (λ c. search needs)
     (λ c. search needs)
