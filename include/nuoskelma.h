@@ -72,6 +72,25 @@ typedef struct {
 nuoskelma_bridged nuoskelma_bridge(const int32_t *east, size_t east_len, const int32_t *north, size_t north_len, int32_t a, uint32_t *scratch,
     size_t scratch_len);
 
+/* ---- Chains. Both chains go left to right; each corner is reported by the lowest sample number at its position. */
+#define NUOSKELMA_HAS_CHAINS 1
+
+typedef struct {
+    uint32_t number;
+    size_t place;
+    size_t upper;
+    size_t lower;
+} nuoskelma_chained;
+
+/*
+ * The upper and the lower chain of the samples, as sample numbers at the front of two output lists, and their counts. What lies beyond them in the lists
+ * stays. No samples: both chains are empty. Scratch has at least 16 words for each sample and 64 more; all of it is zero afterwards.
+ * Refused: 1, the two lists of parts differ in length; 2, over 65,536 samples; 3, a part beyond 1,000,000, at its first place; 4, scratch too short; 18, a chain
+ * step's list has no bridge; 5, an output list is shorter than its chain. After 5 and 18 all the scratch is zero.
+ */
+nuoskelma_chained nuoskelma_chains(const int32_t *east, size_t east_len, const int32_t *north, size_t north_len, uint32_t *upper, size_t upper_len,
+    uint32_t *lower, size_t lower_len, uint32_t *scratch, size_t scratch_len);
+
 /* ---- Ring hand: goes round the corners of a ring, edge by edge. */
 #define NUOSKELMA_HAS_HAND 1
 

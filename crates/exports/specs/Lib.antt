@@ -4,3 +4,4 @@ pub mod Doors
 pub mod Rings
 pub mod Rounds
 pub mod Bridges
+pub mod Chains

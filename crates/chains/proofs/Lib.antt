@@ -1,0 +1,2 @@
+mod Siding
+mod Answers

@@ -1,0 +1,152 @@
+-- One side: its ends, its first list and the chain of that, told by the numbers that the rules report. And both sides, one behind the other.
+-- Assumes nothing.
+use mathlib.Core.Path.{_≡_, refl, sym, ap, ap₂, _∙_, subst, subst⁻¹, fun-ext}
+use mathlib.Core.Logic.{⊎-elim}
+use mathlib.Core.Bool.{Bool, true, false, cond}
+use mathlib.Core.List.{List, [], _∷_, _++_, map, map-map, List·Memᴰ, List·Memᴰ·not-nil, List·Memᴰ·cases-cons, Memᴰ·of-map}
+use Prim.Native.Nat.{ℕ, zero, suc, _+_, _-_, _*_, _≤_, _<_}
+use native.Mathlib.Nat.{le-refl}
+use native.Mathlib.Omega.{arith}
+use lib.IntN.{ℤ}
+use lib.ListN.{length, take, drop}
+use lib.Seq.{length-take-le, take-append-le, drop-at}
+use borrow.Rule.Slice.PartMut.{midOf, putMid, mid-len, same-len-mid, take-put}
+use Rattle.rules.specs.Lists.{first-place}
+use Rattle.rules.specs.Streams.{Stream, streams, same, mirrored}
+use Rattle.rules.specs.Chain.{corners, upper, lower, lowest, upper-numbers, lower-numbers}
+use Rattle.outline.specs.Lists.{those-most, those-in, same-equal, equal-same}
+use Rattle.outline.specs.Sides.{mirrored-twice}
+use Rattle.rounds.specs.Items.{same-true, first-of-in}
+use Rattle.rounds.specs.Pairs.{here}
+use Rattle.rounds.specs.WholeList.{numbers, numbers-length}
+use Rattle.samples.specs.Positions.{Sampled, Listed, at, east-of}
+use Rattle.step.specs.Lists.{between, first-numbers, FirstAsks, Listing}
+use Rattle.step.specs.Ends.{EndAsks, EndOf, nearest}
+use Rattle.step.specs.Chaining.{Chainable, chain-numbers}
+use Rattle.step.specs.Stepping.{facing, number-at, ChainAsks, ChainIs, ChainSays}
+use Rattle.step.specs.First.{first-chainable, first-chain, end-is}
+use Rattle.step.specs.declared.Stepped.{Stepped}
+use Rattle.step.specs.declared.Stepped.the-variants.{Chain, NoBridge}
+use Rattle.chains.specs.Sides.{side-numbers, SideAsks, SideIs, SideSays, BothAre}
+
+-- ---- the numbers of a side
+
+first-place-map : {A B : Type 0} (f : B → Bool) (g : A → B) (xs : List A) → first-place f (map g xs) ≡ first-place (λ x. f (g x)) xs
+unfolding first-place
+first-place-map f g [] = refl
+first-place-map f g (x ∷ xs) = ap (λ (n : ℕ). cond (f (g x)) zero (suc n)) (first-place-map f g xs)
+
+-- a position and a sample that stand at one position do so with their norths negated
+same-mirrored : (p s : Stream) → same (mirrored p) s ≡ same p (mirrored s)
+same-mirrored p s =
+    same-true
+    (same (mirrored p) s)
+    (same p (mirrored s))
+    (λ e. equal-same (sym (mirrored-twice p) ∙ ap mirrored (same-equal (mirrored p) s e)))
+    (λ e. equal-same (ap mirrored (same-equal p (mirrored s) e) ∙ mirrored-twice s))
+
+lowest-mirrored : (xs : List Stream) (p : Stream) → lowest xs (mirrored p) ≡ lowest (map mirrored xs) p
+unfolding lowest
+lowest-mirrored xs p = ap (λ (f : Stream → Bool). first-place f xs) (fun-ext (same-mirrored p)) ∙ sym (first-place-map (same p) mirrored xs)
+
+reported : (es ns : List ℤ) (lower : Bool) → map (number-at es ns lower) (upper (facing es ns lower)) ≡ side-numbers es ns lower
+unfolding upper-numbers lower-numbers lower
+reported es ns true =
+    let xs = streams es ns in
+    sym (map-map (lowest xs) mirrored (upper (map mirrored xs)) ∙ ap (λ (f : Stream → ℕ). map f (upper (map mirrored xs))) (fun-ext (lowest-mirrored xs)))
+reported es ns false = refl
+
+-- no samples: both chains empty
+pub none : (es ns : List ℤ) (lower : Bool) (w : List ℕ) → length es ≡ 0 → SideIs es ns lower 0 w
+unfolding streams upper-numbers lower-numbers lower upper corners
+none [] ns true w e = record { numbers = refl; few = omega arith }
+none [] ns false w e = record { numbers = refl; few = omega arith }
+none (x ∷ es) ns b w e = absurd (omega arith)
+
+-- ---- the first list
+
+-- the numbers of all samples are below their count
+all-below : (n x : ℕ) → List·Memᴰ x (numbers n) → x < n
+unfolding numbers
+all-below zero x m = absurd (List·Memᴰ·not-nil m)
+all-below (suc n) x m =
+    ⊎-elim
+    (λ e. omega (arith, e))
+    (λ k. let o = Memᴰ·of-map suc (numbers n) k in omega (arith, all-below n (o .0) (o .1), o .2))
+    (List·Memᴰ·cases-cons m)
+
+module _ {es ns : List ℤ} {w : List ℕ} (lower : Bool) (asks : SideAsks es ns w) (some-sample : 1 ≤ length es) {p q : ℕ}
+    (p-is : p ≡ nearest (at es ns lower) false (drop 1 (numbers (length es))))
+    (q-is : q ≡ nearest (at es ns lower) true (drop 1 (numbers (length es)))) where
+  abbrev to : ℕ → Stream
+  to = at es ns lower
+
+  left-end : EndOf to false (numbers (length es)) p
+  left-end = subst (EndOf to false (numbers (length es))) (sym p-is) (end-is to false (length es) some-sample)
+
+  right-end : EndOf to true (numbers (length es)) q
+  right-end = subst (EndOf to true (numbers (length es))) (sym q-is) (end-is to true (length es) some-sample)
+
+  end-below : {right : Bool} {x : ℕ} → EndOf to right (numbers (length es)) x → x < length es
+  end-below {x = x} h = all-below (length es) x (first-of-in (here to (to x)) (numbers (length es)) (h .first) .0)
+
+  pub first-asks : FirstAsks es w p q
+  first-asks =
+      record { few = asks .few; room = omega (arith, asks .room); left-below = end-below left-end; right-below = end-below right-end }
+
+  first-few : length (first-numbers es p q) ≤ length es + 2
+  first-few =
+      omega (arith, those-most (λ x. between (east-of es p) (east-of es q) (east-of es x)) (numbers (length es)), numbers-length (length es))
+
+  first-listed : Listed (length es) (first-numbers es p q)
+  first-listed = record {
+    below = λ x m. ⊎-elim (λ e. subst⁻¹ (λ (y : ℕ). y < length es) e (end-below left-end)) (λ k. ⊎-elim
+        (λ e. subst⁻¹ (λ (y : ℕ). y < length es) e (end-below right-end)) (λ i. all-below (length es) x (those-in (λ x. between (east-of es p) (east-of es q) (east-of es x)) (numbers (length es)) i .0))
+        (List·Memᴰ·cases-cons k)) (List·Memᴰ·cases-cons m);
+  }
+
+  module _ {t : ℕ} {w₁ : List ℕ} (l : Listing (first-numbers es p q) t w₁) (long : length w₁ ≡ length w) where
+    count : t ≡ length (first-numbers es p q)
+    count = sym (length-take-le t w₁ (l .inside)) ∙ ap (λ (k : List ℕ). length k) (l .front)
+
+    pub chain-asks : ChainAsks es ns lower w₁ t p q
+    chain-asks =
+        record {
+          sampled = asks .sampled;
+          listed = subst⁻¹ (Listed (length es)) (l .front) first-listed;
+          left-below = end-below left-end;
+          right-below = end-below right-end;
+          chainable = subst⁻¹ (λ (k : List ℕ). Chainable to (number-at es ns lower) k p q) (l .front) (first-chainable es ns (asks .sampled .even) lower left-end right-end);
+          room = omega (arith, asks .room, long, count, first-few);
+        }
+
+    pub side-says : (r : Stepped) (after : List ℕ) → ChainSays to (number-at es ns lower) (take t w₁) r after → SideSays es ns lower r after
+    side-says (Chain m) after c =
+        record {
+          numbers =
+              c .corners
+              ∙ ap (chain-numbers to (number-at es ns lower)) (l .front)
+              ∙ first-chain es ns (asks .sampled .even) lower left-end right-end
+              ∙ reported es ns lower;
+          few = omega (arith, c .few, ap (λ (k : List ℕ). length k) (l .front), first-few);
+        }
+    side-says NoBridge after c = c
+
+-- ---- both sides
+
+-- the lower chain is made in the part behind the upper one
+pub both-are : {es ns : List ℤ} {u v : ℕ} {w ys : List ℕ} → u + 4 * (length es + 2) ≤ length w → SideIs es ns false u w → SideIs es ns true v ys
+    → length ys ≡ length (midOf u (length w - u) w)
+    → BothAre es ns u v (putMid u (length w - u) w ys)
+both-are {es} {ns} {u} {v} {w} {ys} room a b long =
+    record {
+      upper-is = take-put u (length w - u) w ys (omega arith) ∙ a .numbers;
+      lower-is =
+          ap (take v) (drop-at (take u w) (ys ++ drop (length w - u) (drop u w)) u (length-take-le u w (omega arith)))
+          ∙ take-append-le v ys (drop (length w - u) (drop u w)) (omega (arith, b .few, part))
+          ∙ b .numbers;
+      inside = omega (arith, b .few, same-len-mid u (length w - u) w ys long);
+    }
+  where
+    part : length ys ≡ length w - u
+    part = long ∙ mid-len u (length w) w (le-refl (length w))

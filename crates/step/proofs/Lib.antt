@@ -1,0 +1,5 @@
+mod Words
+mod Passing
+mod Cutting
+mod Halving
+mod Sides

@@ -1,0 +1,100 @@
+-- The first list: from the ends of all samples of a side, each by the lowest number at its position, it is a list of which a chain is made, and its chain is
+-- that of all the samples.
+-- Assumes nothing.
+use mathlib.Core.Path.{_≡_, refl, sym, ap, _∙_, subst, subst₂, fun-ext}
+use mathlib.Core.Bool.{Bool, true, false, _&&_}
+use mathlib.Core.List.{List, [], _∷_, map}
+use Prim.Native.Nat.{ℕ, zero, suc, _≤_}
+use native.Mathlib.Omega.{arith}
+use lib.IntN.{ℤ, pos}
+use lib.Signed.{ltZ}
+use lib.ListN.{length, drop, length-map, List·getD-map}
+use Rattle.rules.specs.Lists.{those}
+use Rattle.rules.specs.Streams.{Stream, stream, streams, sample, mirrored}
+use Rattle.rules.specs.Chain.{Of, LeftEnd, RightEnd, upper, lowest}
+use Rattle.rules.specs.Step.{first-list}
+use Rattle.outline.specs.Prefix.{one-corner, first-list-chain}
+use Rattle.outline.specs.Steps.{Ready, first-list-ready}
+use Rattle.rounds.specs.Steps.{first-list-map}
+use Rattle.rounds.specs.WholeList.{numbers, numbers-samples}
+use Rattle.samples.specs.Positions.{at, east-of}
+use Rattle.samples.specs.Samples.{streams-length, sample-at, samples-at}
+use Rattle.step.specs.Lists.{between, first-numbers}
+use Rattle.step.specs.Ends.{EndOf, nearest, nearest-is}
+use Rattle.step.specs.Named.{Named, named-those, named-cons, named-first, named-samples}
+use Rattle.step.specs.Chaining.{Chainable, chain-numbers}
+use Rattle.step.specs.Stepping.{facing, number-at}
+
+-- ---- the samples of a side by their numbers
+
+module _ (es ns : List ℤ) (even : length es ≡ length ns) where
+  facing-length : (lower : Bool) → length (facing es ns lower) ≡ length es
+  facing-length true = length-map (streams es ns) mirrored ∙ streams-length es ns even
+  facing-length false = streams-length es ns even
+
+  facing-at : (lower : Bool) → sample (facing es ns lower) ≡ at es ns lower
+  facing-at true =
+      fun-ext (λ i. List·getD-map mirrored (streams es ns) i (stream (pos 0) (pos 0)) ∙ ap mirrored (sample-at es ns even i))
+  facing-at false = samples-at es ns even
+
+  pub facing-all : (lower : Bool) → map (at es ns lower) (numbers (length es)) ≡ facing es ns lower
+  facing-all lower =
+      subst₂
+      (λ (f : ℕ → Stream) (n : ℕ). map f (numbers n) ≡ facing es ns lower)
+      (facing-at lower)
+      (facing-length lower)
+      (numbers-samples (facing es ns lower))
+
+  named-all : (lower : Bool) → Named (at es ns lower) (number-at es ns lower) (numbers (length es))
+  named-all lower =
+      subst₂
+      (λ (f : ℕ → Stream) (n : ℕ). Named f (number-at es ns lower) (numbers n))
+      (facing-at lower)
+      (facing-length lower)
+      (named-samples (facing es ns lower))
+
+  -- ---- the first list
+
+  module _ (lower : Bool) {p q : ℕ} (h : EndOf (at es ns lower) false (numbers (length es)) p) (k : EndOf (at es ns lower) true (numbers (length es)) q) where
+    abbrev to : ℕ → Stream
+    to = at es ns lower
+
+    abbrev number : Stream → ℕ
+    number = number-at es ns lower
+
+    abbrev all : List ℕ
+    all = numbers (length es)
+
+    first-positions : first-list (to p) (to q) (map to all) ≡ map to (first-numbers es p q)
+    first-positions = first-list-map to p q all
+
+    pub first-chainable : Chainable to number (first-numbers es p q) p q
+    first-chainable =
+        record {
+          started = omega arith;
+          alone = λ e.
+              sym (ap upper first-positions)
+              ∙ first-list-chain (h .is-end) (k .is-end)
+              ∙ one-corner (h .is-end) (subst (RightEnd (Of (map to all))) (sym e) (k .is-end));
+          ready = λ g. subst (λ (xs : List Stream). Ready xs (to p) (to q)) first-positions (first-list-ready (h .is-end) (k .is-end) g);
+          named = named-cons to number p (q ∷ inner) (told h) (named-cons to number q inner (told k)
+              (named-those to number (λ s. between (to p .east) (to q .east) (s .east)) all (named-all lower)));
+          told = told h;
+        }
+      where
+        inner : List ℕ
+        inner = those (λ x. between (to p .east) (to q .east) (to x .east)) all
+
+        told : {right : Bool} {x : ℕ} → EndOf to right all x → number (to x) ≡ x
+        told e = named-first to number all (named-all lower) (e .first)
+
+    pub first-chain : chain-numbers to number (first-numbers es p q) ≡ map number (upper (facing es ns lower))
+    first-chain =
+        ap (map number)
+        (sym (ap upper first-positions) ∙ first-list-chain (h .is-end) (k .is-end) ∙ ap upper (facing-all lower))
+
+-- the scan finds the ends
+pub end-is : (to : ℕ → Stream) (right : Bool) (n : ℕ) → 1 ≤ n → EndOf to right (numbers n) (nearest to right (drop 1 (numbers n)))
+unfolding numbers
+end-is to right zero h = absurd (omega arith)
+end-is to right (suc n) h = nearest-is to right (map suc (numbers n))
