@@ -3,24 +3,23 @@
 use mathlib.Core.Path.{_≡_, refl, sym, ap, ap₂, _∙_, subst₂, subst⁻¹}
 use mathlib.Core.Bool.{Bool, true, false, cond, _||_}
 use mathlib.Core.List.{List, [], _∷_}
-use Prim.Native.Nat.{ℕ, _+_, _*_, _≤_, _<_}
+use Prim.Native.Nat.{ℕ, _≤_, _<_}
 use lib.IntN.{ℤ}
-use lib.Dec.{ltb, eqb}
+use lib.Dec.{ltb}
 use lib.ListN.{length, take, drop, replicate}
-use borrow.Author.Tests.{lt-ltb, le-ltb, ltb-false, eqb-true, not-false}
+use borrow.Author.Tests.{lt-ltb, le-ltb}
 use Rattle.rules.specs.Lists.{written, zeros}
-use Rattle.rules.specs.Streams.{streams, most}
+use Rattle.rules.specs.Streams.{streams}
 use Rattle.rules.specs.Chain.{upper-numbers, lower-numbers}
 use Rattle.rules.specs.Refusals.{Answer, refused, done, Test, test, unless, output-short, scratch-after}
 use Rattle.rules.specs.Entries.{Chains, step-without-bridge, chains-answer}
 use Rattle.rounds.specs.Steps.{no-step-without-bridge}
-use Rattle.samples.specs.Samples.{sampled}
-use Rattle.samples.specs.Tests.{tested-of, sample-tests, then-answer, answer-after, passed-tests, quiet-scratch}
+use Rattle.samples.specs.Tests.{tested-of, sample-tests, then-answer, answer-after, quiet-scratch}
 use Rattle.samples.specs.declared.tests.Tested.{Tested}
 use Rattle.samples.specs.declared.tests.Tested.the-variants.{Passed, Refused}
 use Rattle.chains.specs.declared.ChainsAnswer.{ChainsAnswer}
 use Rattle.chains.specs.declared.ChainsAnswer.the-variants as answers
-use Rattle.chains.specs.Sides.{SidesAsk, BothAre}
+use Rattle.chains.specs.Sides.{BothAre}
 use Rattle.chains.specs.Promise.{Counts, Kept, ChainsPromise, fits, ChainsWritten}
 
 -- the counts as an answer
@@ -86,15 +85,6 @@ module _ (es ns : List ℤ) (upper lower scratch : List ℕ) where
       answer-after tests later both
       ∙ ap (λ (t : Tested). then-answer t (unless later both)) e
       ∙ ap (λ (b : Bool). cond b (refused 18 0) (fits (upper-numbers (streams es ns)) (lower-numbers (streams es ns)) upper lower)) (no-step-without-bridge (streams es ns))
-
-  pub sides-ask : tested-of tests ≡ Passed → SidesAsk es ns scratch
-  sides-ask e =
-      let n = passed-tests tests e in
-      record {
-        sampled = sampled es ns (eqb-true (length es) (length ns) (not-false (eqb (length es) (length ns)) (n .0))) (n .1 .1 .0);
-        few = ltb-false most (length es) (n .1 .0);
-        room = ltb-false (length scratch) (16 * length es + 64) (n .1 .1 .1 .0);
-      }
 
   -- what is made of the scratch on the way is no matter, but its length
   fits-scratch : (u l now : List ℕ) → length now ≡ length scratch

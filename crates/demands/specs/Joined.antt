@@ -26,9 +26,9 @@ use Rattle.rings.specs.Turning.{turn-ring}
 use Rattle.ringside.specs.Samples.{streams-length, streams-easts, streams-norths}
 use Rattle.envelope.specs.declared.turn.Turned.the-variants as turn
 use Rattle.envelope.specs.declared.cover.Covered.the-variants as said
-use Rattle.join.specs.Meaning.{joined-as}
-use Rattle.join.specs.declared.Joined.{Joined}
-use Rattle.join.specs.declared.Joined.the-variants as joined
+use Rattle.closing.specs.Meaning.{ringed-as}
+use Rattle.closing.specs.declared.Ringed.{Ringed}
+use Rattle.closing.specs.declared.Ringed.the-variants as ringed
 use Rattle.join.proofs.join.Kinds as kinds
 use Rattle.join.proofs.join.Reads as reads
 use Rattle.demands.specs.Done.{when-done, counted-done, front, streams-parts}
@@ -39,7 +39,7 @@ use Rattle.demands.specs.Covered as covers
 pub record Joining : Type 1 where
   pub lifetimes : Lfts 7
   pub given : Dens lifetimes kinds.ps
-  pub answer : Joined
+  pub answer : Ringed
   pub left : AtExit (endedOf 7 kinds.ps kinds.r) lifetimes
   pub promised : reads.Post lifetimes given answer left
 
@@ -75,9 +75,9 @@ pub record Joined-up (c : Joining) (n : ℕ) : Type 0 where
   pub easts-left : take n (east-after c) ≡ easts (both c)
   pub norths-left : take n (north-after c) ≡ norths (both c)
 
-pub joining-done : (c : Joining) {n : ℕ} → c .answer ≡ joined.Corners n → Joined-up c n
+pub joining-done : (c : Joining) {n : ℕ} → c .answer ≡ ringed.Corners n → Joined-up c n
 unfolding join-answer
-joining-done c {n} e = go (counted-done (join-answer (east c) (north c) (east2 c) (north2 c) oe on w) (sym (ap joined-as e) ∙ c .promised .says))
+joining-done c {n} e = go (counted-done (join-answer (east c) (north c) (east2 c) (north2 c) oe on w) (sym (ap ringed-as e) ∙ c .promised .says))
   where
     oe : List ℤ
     oe = now (c .given .1 .1 .1 .1 .0)
@@ -120,7 +120,7 @@ joining-done c {n} e = go (counted-done (join-answer (east c) (north c) (east2 c
 -- a ring that comes of calls that are done, and all streams behind it: an envelope of some streams, two rings joined, or one turned about
 pub data Made : List Stream → List ℤ → List ℤ → Type 1 where
   enveloped : (xs : List Stream) {es ns : List ℤ} → length es ≡ length ns → streams es ns ≡ ring xs → Made xs es ns
-  joined-by : {xs ys : List Stream} (c : Joining) {n : ℕ} → c .answer ≡ joined.Corners n → Made xs (east c) (north c) → Made ys (east2 c) (north2 c)
+  joined-by : {xs ys : List Stream} (c : Joining) {n : ℕ} → c .answer ≡ ringed.Corners n → Made xs (east c) (north c) → Made ys (east2 c) (north2 c)
       → Made (xs ++ ys) (take n (east-after c)) (take n (north-after c))
   turned-by : {xs : List Stream} (c : turns.Turning) {n : ℕ} → c .answer ≡ turn.Corners n → Made xs (turns.east c) (turns.north c)
       → Made (map turned xs) (take n (turns.east-after c)) (take n (turns.north-after c))
@@ -168,7 +168,7 @@ turned-join xs ys {fs} {ms} a b =
 
 -- ---- a stream that a ring covers
 
-pub covered-changes-nothing : (k : covers.Call) → k .answer ≡ said.Yes → (c : Joining) {n : ℕ} → c .answer ≡ joined.Corners n
+pub covered-changes-nothing : (k : covers.Call) → k .answer ≡ said.Yes → (c : Joining) {n : ℕ} → c .answer ≡ ringed.Corners n
     → streams (east c) (north c) ≡ covers.corners k → streams (east2 c) (north2 c) ≡ covers.asked k ∷ []
     → (n ≡ length (east c)) × (take n (east-after c) ≡ east c) × (take n (north-after c) ≡ north c)
 unfolding join

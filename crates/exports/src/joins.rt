@@ -1,6 +1,6 @@
 // Joining two rings.
 use crate::rings::Counted;
-use join::Joined;
+use closing::Ringed;
 ghost use mathlib.Core.Path.{_≡_};
 ghost use Rattle.rules.specs.Refusals.{output-after, scratch-after};
 ghost use Rattle.rules.specs.Entries.{join-answer};
@@ -25,12 +25,12 @@ pub extern "C" fn nuoskelma_join(
         (join-answer (now (east .entry)) (now (north .entry)) (now (east2 .entry)) (now (north2 .entry)) (now (easts .entry)) (now (norths .entry)) (now (scratch .entry))) (now (scratch .entry)) ⌝ }
 {
     match join::join(east, north, east2, north2, easts, norths, scratch) {
-        Joined::Corners(count) => Counted {
+        Ringed::Corners(count) => Counted {
             number: 0,
             place: 0,
             count,
         },
-        Joined::Refused { number, place } => Counted {
+        Ringed::Refused { number, place } => Counted {
             number,
             place,
             count: 0,

@@ -1,5 +1,3 @@
-pub mod Both
 pub mod Meaning
 pub mod Ring
 pub mod Verdict
-pub mod Written

@@ -17,9 +17,9 @@ use Rattle.rules.specs.Ring.{closed, ring}
 use Rattle.rules.specs.Use.{join}
 use Rattle.stack.specs.Places.{listed, listed-alike}
 use Rattle.stack.specs.Walk.{All}
-use Rattle.stack.specs.Closing.{Closes, closes-ring, chains-ring}
-use Rattle.walk.specs.Both.{Rings, both, count, corner-at, listed-at, Stand, Chained}
-use Rattle.join.specs.Both.{Both, upper-at, lower-at, RingIn}
+use Rattle.stack.specs.Closing.{chains-ring}
+use Rattle.walk.specs.Both.{Corners, both, count, corner-at, listed-at, Stand, Chained}
+use Rattle.closing.specs.Both.{Both, upper-at, lower-at}
 use Rattle.walk.specs.Places.{both-length}
 
 -- ---- a list with ys put behind its first u items
@@ -74,18 +74,9 @@ module _ {es ns fs ms : List ℤ} {v ys : List ℕ} {u l : ℕ} (k : ℕ) (a : C
   lower-same = listed-alike (listed-at es ns fs ms false ys) (λ i. mirrored (lower-at es ns fs ms (putMid u k v ys) u i)) l
       (λ i h. let room : l ≤ length ys = b .stand .room in ap (corner-at es ns fs ms false) (sym (put-behind u k v ys (a .stand .room) i (omega arith))))
 
-  pub chained-ring : Rings es ns fs ms → join (streams es ns) (streams fs ms)
+  pub chained-ring : Corners es ns fs ms → join (streams es ns) (streams fs ms)
       ≡ closed (listed (upper-at es ns fs ms (putMid u k v ys) u) u) (listed (lower-at es ns fs ms (putMid u k v ys) u) l)
   unfolding join
   chained-ring r = chains-ring (both es ns fs ms) (upper-at es ns fs ms (putMid u k v ys) u) u (lower-at es ns fs ms (putMid u k v ys) u) l
       (rw (both-length r) (subst (UpperChain (All (sample (both es ns fs ms)) (count es fs))) upper-same (a .chain)))
       (rw (both-length r) (subst (UpperChain (All (λ j. mirrored (sample (both es ns fs ms) j)) (count es fs))) lower-same (b .chain)))
-
-  -- closed, without what is left out
-  pub ring-in : {lo hi : ℕ} → Rings es ns fs ms → Closes (upper-at es ns fs ms (putMid u k v ys) u) u (lower-at es ns fs ms (putMid u k v ys) u) l lo hi
-      → RingIn es ns fs ms (putMid u k v ys) u hi (u + (hi - lo))
-  ring-in r c = record {
-    corners = chained-ring r ∙ closes-ring c;
-    stand = record { room = let s = stand-both .room in let h = c .high in omega arith; below = λ i l. stand-both .below i (let h = c .high in omega arith) };
-    few = omega arith;
-  }

@@ -11,7 +11,7 @@ use lib.IntN.{ℤ}
 use lib.Dec.{eqb, ltb}
 use lib.ListN.{length}
 use borrow.Author.Tests.{eqb-true, ltb-false, lt-ltb, le-ltb, not-true, not-false}
-use Rattle.rules.specs.Lists.{all-of, zeros}
+use Rattle.rules.specs.Lists.{all-of}
 use Rattle.rules.specs.Streams.{Stream, streams, sample, most, beyond}
 use Rattle.rules.specs.Use.{envelope, join}
 use Rattle.rules.specs.Refusals.{Answer, refused, done, Test, unless, lengths-differ, part-beyond, ring-tests, not-envelope, too-many, scratch-short}
@@ -20,9 +20,9 @@ use Rattle.outline.specs.Lists.{both-yes}
 use Rattle.ringside.specs.Meaning.{Near}
 use Rattle.ringside.specs.Samples.{sample-near, streams-length}
 use Rattle.stack.specs.Hills.{Hill, hill-placed, envelope-hill}
-use Rattle.join.specs.declared.Joined.the-variants as joined
 use Rattle.walk.specs.Both.{Rings, both, count}
-use Rattle.join.specs.Meaning.{ring-verdict, unless-short, Outcome}
+use Rattle.closing.specs.Meaning.{unless-short}
+use Rattle.join.specs.Meaning.{ring-verdict}
 use Rattle.walk.specs.Places.{sample-first, sample-second}
 
 -- ---- tests before others
@@ -111,10 +111,7 @@ verdict-sound es ns e =
 -- two rings that pass
 pub two-sound : {es ns fs ms : List ℤ} → Sound es ns → Sound fs ms → count es fs ≤ most → Rings es ns fs ms
 two-sound {es} {ns} {fs} {ms} a b h = record {
-  even = a .even;
-  even2 = b .even;
-  few = h;
-  near = λ k. near-at k (decLt k (length es));
+  corners = record { even = a .even; even2 = b .even; few = h; near = λ k. near-at k (decLt k (length es)) };
   hill = hill-placed at-first (subst (Hill (λ k. sample (streams es ns) k .east) 0) (streams-length es ns (a .even) ∙ sym (sub-zero (length es)))
       (envelope-hill (streams es ns) (a .is-envelope)));
   hill2 = hill-placed at-second (subst (Hill (λ k. sample (streams fs ms) k .east) 0) (streams-length fs ms (b .even) ∙ rest)
@@ -134,13 +131,7 @@ two-sound {es} {ns} {fs} {ms} a b h = record {
     rest : length fs ≡ count es fs - length es
     rest = omega arith
 
--- ---- what is lent stays as it was where a test refuses, unless the number is 5 or 18
-
-pub outcome-refused : {answer : Answer (List Stream)} (number place : ℕ) {east north : List ℤ} {scratch : List ℕ} → answer ≡ refused number place
-    → (eqb number 5 || eqb number 18) ≡ false → Outcome answer (joined.Refused number place) east east north north scratch scratch
-outcome-refused number place {east} {north} {scratch} e h =
-    subst (λ (a : Answer (List Stream)). Outcome a (joined.Refused number place) east east north north scratch scratch) (sym e)
-    (record { says = refl; east-after = refl; north-after = refl; scratch-is = sym (ap (λ (b : Bool). cond b (zeros scratch) scratch) h) })
+-- ---- after a refusal by these tests scratch stays as it was
 
 -- a ring's own tests are none of these
 abbrev plain : Test → Bool

@@ -7,22 +7,14 @@ ghost use Rattle.rules.specs.Streams.{streams};
 ghost use Rattle.rules.specs.Use.{join};
 ghost use Rattle.rules.specs.Entries.{join-answer};
 ghost use Rattle.walk.specs.Both.{Rings, count};
-ghost use Rattle.join.specs.Meaning.{tested-as, ring-verdict, unless-short, Outcome};
-use crate::closing::clear;
-use crate::closing::put;
-use crate::ring::ring_of;
+ghost use Rattle.closing.specs.Meaning.{unless-short, Outcome};
+ghost use Rattle.join.specs.Meaning.{tested-as, ring-verdict};
+use closing::Ringed;
+use closing::close;
 use envelope::test::is_envelope;
 use ringside::MOST;
 use ringside::first_beyond;
-
-mod closing;
-mod ring;
-
-// What comes of a join: how many corners the ring has, or a refusal's number and place.
-pub enum Joined {
-    Corners(usize),
-    Refused { number: u32, place: usize },
-}
+use walk::chain::chain;
 
 // What the tests of one ring say: nothing against it, or a refusal's number and place.
 enum Tested {
@@ -59,7 +51,7 @@ fn test_ring(east: &[i32], north: &[i32]) -> Tested
     Tested::Sound
 }
 
-// The join of two rings that passed their tests, with room in scratch: written, unless an output is too short. Scratch is zero either way.
+// The join of two rings that passed their tests, with room in scratch: both chains, closed. Scratch is zero afterwards.
 fn write_join(
     east: &[i32],
     north: &[i32],
@@ -68,7 +60,7 @@ fn write_join(
     out_east: &mut [i32],
     out_north: &mut [i32],
     scratch: &mut [u32],
-) -> Joined
+) -> Ringed
     requires { ⌜ Rings (now east) (now north) (now east2) (now north2)
         × (count (now east) (now east2) + count (now east) (now east2) ≤ length (now scratch)) ⌝ }
     ensures { λ r. ⌜ Outcome
@@ -76,38 +68,19 @@ fn write_join(
         (join (streams (now (east .entry)) (now (north .entry))) (streams (now (east2 .entry)) (now (north2 .entry)))))
         r (now («out_east» .entry)) (now («out_east» .exit)) (now («out_north» .entry)) (now («out_north» .exit)) (now (scratch .entry)) (now (scratch .exit)) ⌝ }
 {
-    let ring = ring_of(east, north, east2, north2, scratch);
-    let upper = ring.upper;
-    let hi = ring.hi;
-    let n = ring.count;
-    if out_east.len() < n {
-        clear(scratch);
-        return Joined::Refused {
-            number: 5,
-            place: 0,
-        };
-    }
-    if out_north.len() < n {
-        clear(scratch);
-        return Joined::Refused {
-            number: 5,
-            place: 0,
-        };
-    }
-    put(
+    let upper = chain(east, north, east2, north2, true, scratch);
+    let lower = chain(east, north, east2, north2, false, &mut scratch[upper..]);
+    close(
         east,
         north,
         east2,
         north2,
-        scratch,
         upper,
-        hi,
-        n,
+        lower,
         out_east,
         out_north,
-    );
-    clear(scratch);
-    Joined::Corners(n)
+        scratch,
+    )
 }
 
 // The ring of both rings' positions, at the front of the outputs, unless refused: each ring's 1, 2, 3, 9, then 2 for both, 4, 5. Scratch is zero where
@@ -120,7 +93,7 @@ pub fn join(
     out_east: &mut [i32],
     out_north: &mut [i32],
     scratch: &mut [u32],
-) -> Joined
+) -> Ringed
     ensures { λ r. ⌜ Outcome
         (join-answer (now (east .entry)) (now (north .entry)) (now (east2 .entry)) (now (north2 .entry)) (now («out_east» .entry))
         (now («out_north» .entry)) (now (scratch .entry)))
@@ -129,24 +102,24 @@ pub fn join(
     match test_ring(east, north) {
         Tested::Sound => {}
         Tested::Refused { number, place } => {
-            return Joined::Refused { number, place };
+            return Ringed::Refused { number, place };
         }
     }
     match test_ring(east2, north2) {
         Tested::Sound => {}
         Tested::Refused { number, place } => {
-            return Joined::Refused { number, place };
+            return Ringed::Refused { number, place };
         }
     }
     let both = east.len() + east2.len();
     if MOST < both {
-        return Joined::Refused {
+        return Ringed::Refused {
             number: 2,
             place: 0,
         };
     }
     if scratch.len() < 16 * both + 64 {
-        return Joined::Refused {
+        return Ringed::Refused {
             number: 4,
             place: 0,
         };

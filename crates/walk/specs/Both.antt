@@ -29,12 +29,16 @@ count es fs = length es + length fs
 abbrev pub facing : Bool → Stream → Stream
 facing up s = stream (s .east) (cond up (s .north) (negℤ (s .north)))
 
--- two rings that passed their tests: level lists, every part within the limit, and easts that go up and then down
-pub record Rings (es ns fs ms : List ℤ) : Type 0 where
+-- two lists of corners that passed their tests: level, and every part within the limit
+pub record Corners (es ns fs ms : List ℤ) : Type 0 where
   pub even : length es ≡ length ns
   pub even2 : length fs ≡ length ms
   pub few : count es fs ≤ most
   pub near : (k : ℕ) → Near (sample (both es ns fs ms) k)
+
+-- two rings: their easts go up and then down
+pub record Rings (es ns fs ms : List ℤ) : Type 0 where
+  pub corners : Corners es ns fs ms
   pub hill : Hill (λ k. sample (both es ns fs ms) k .east) 0 (length es)
   pub hill2 : Hill (λ k. sample (both es ns fs ms) k .east) (length es) (count es fs)
 

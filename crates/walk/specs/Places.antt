@@ -13,7 +13,7 @@ use Rattle.whole.specs.Fits.{[]ʷ, _∷ʷ_, value-within}
 use Rattle.rules.specs.Streams.{Stream, stream, streams, sample}
 use Rattle.ringside.specs.Meaning.{Near}
 use Rattle.ringside.specs.Samples.{streams-length}
-use Rattle.walk.specs.Both.{both, count, facing, corner-at, Rings}
+use Rattle.walk.specs.Both.{both, count, facing, corner-at, Corners}
 
 module _ (es ns fs ms : List ℤ) (even : length es ≡ length ns) where
   first-length : length (streams es ns) ≡ length es
@@ -28,7 +28,7 @@ module _ (es ns fs ms : List ℤ) (even : length es ≡ length ns) where
       sym (getD-append-add (streams es ns) (streams fs ms) (k - length es) (stream (pos 0) (pos 0)))
       ∙ ap (sample (both es ns fs ms)) (ap (λ (m : ℕ). m + (k - length es)) first-length ∙ e)
 
-pub both-length : {es ns fs ms : List ℤ} → Rings es ns fs ms → length (both es ns fs ms) ≡ count es fs
+pub both-length : {es ns fs ms : List ℤ} → Corners es ns fs ms → length (both es ns fs ms) ≡ count es fs
 both-length {es} {ns} {fs} {ms} r =
     length-append (streams es ns) (streams fs ms) ∙ ap₂ _+_ (streams-length es ns (r .even)) (streams-length fs ms (r .even2))
 
@@ -36,5 +36,5 @@ facing-near : (up : Bool) (s : Stream) → Near s → Near (facing up s)
 facing-near true s h = h
 facing-near false s h = record { east-near = h .east-near; north-near = value-within (h .north-near ∷ʷ []ʷ) (⊝ var 0) }
 
-pub corner-near : {es ns fs ms : List ℤ} → Rings es ns fs ms → (up : Bool) (k : ℕ) → Near (corner-at es ns fs ms up k)
+pub corner-near : {es ns fs ms : List ℤ} → Corners es ns fs ms → (up : Bool) (k : ℕ) → Near (corner-at es ns fs ms up k)
 corner-near {es} {ns} {fs} {ms} r up k = facing-near up (sample (both es ns fs ms) k) (r .near k)

@@ -6,7 +6,7 @@ ghost use Prim.Native.Nat.{_≤_, _<_};
 ghost use lib.ListN.{length};
 ghost use Rattle.ringside.specs.Meaning.{stream-of, Near};
 ghost use Rattle.stack.specs.Stack.{stays};
-ghost use Rattle.walk.specs.Both.{Rings, count, corner-at, listed-at, Stand, Coming, Settled, Next, Hides, Taken, Chained};
+ghost use Rattle.walk.specs.Both.{Corners, Rings, count, corner-at, listed-at, Stand, Coming, Settled, Next, Hides, Taken, Chained};
 use crate::corners::listed;
 use crate::corners::seen;
 use crate::corners::south;
@@ -26,7 +26,7 @@ fn stays(
     top: usize,
     s: Stream,
 ) -> bool
-    requires { ⌜ Rings (now east) (now north) (now east2) (now north2) × Stand (count (now east) (now east2)) (now w) top
+    requires { ⌜ Corners (now east) (now north) (now east2) (now north2) × Stand (count (now east) (now east2)) (now w) top
         × Near (stream-of s) ⌝ }
     ensures { λ r. ⌜ r ≡ stays (listed-at (now (east .entry)) (now (north .entry)) (now (east2 .entry)) (now (north2 .entry)) up (now (w .entry)))
         top (stream-of s) ⌝ }
@@ -53,7 +53,7 @@ fn settled(
     top: usize,
     s: Stream,
 ) -> usize
-    requires { ⌜ Rings (now east) (now north) (now east2) (now north2) × Stand (count (now east) (now east2)) (now w) top × Near (stream-of s)
+    requires { ⌜ Corners (now east) (now north) (now east2) (now north2) × Stand (count (now east) (now east2)) (now w) top × Near (stream-of s)
         × Coming (listed-at (now east) (now north) (now east2) (now north2) up (now w)) top (stream-of s) ⌝ }
     ensures { λ r. ⌜ Settled (listed-at (now (east .entry)) (now (north .entry)) (now (east2 .entry)) (now (north2 .entry)) up (now (w .entry)))
         top (stream-of s) r ⌝ }
@@ -76,7 +76,7 @@ fn hides(
     top: usize,
     s: Stream,
 ) -> bool
-    requires { ⌜ Rings (now east) (now north) (now east2) (now north2) × Stand (count (now east) (now east2)) (now w) top
+    requires { ⌜ Corners (now east) (now north) (now east2) (now north2) × Stand (count (now east) (now east2)) (now w) top
         × Next (listed-at (now east) (now north) (now east2) (now north2) up (now w)) top (stream-of s) ⌝ }
     ensures { λ r. ⌜ Hides (listed-at (now (east .entry)) (now (north .entry)) (now (east2 .entry)) (now (north2 .entry)) up (now (w .entry)))
         top (stream-of s) r ⌝ }
@@ -102,7 +102,7 @@ fn taken(
     top: usize,
     k: usize,
 ) -> usize
-    requires { ⌜ Rings (now east) (now north) (now east2) (now north2) × (k < count (now east) (now east2))
+    requires { ⌜ Corners (now east) (now north) (now east2) (now north2) × (k < count (now east) (now east2))
         × Stand (count (now east) (now east2)) (now w) top × (top < length (now w))
         × Next (listed-at (now east) (now north) (now east2) (now north2) up (now w)) top (corner-at (now east) (now north) (now east2) (now north2) up k) ⌝ }
     ensures { λ r. ⌜ Taken (now (east .entry)) (now (north .entry)) (now (east2 .entry)) (now (north2 .entry)) up

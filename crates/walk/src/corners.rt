@@ -6,7 +6,7 @@ ghost use lib.Signed.{ltZ};
 ghost use lib.ListN.{length, getD};
 ghost use Rattle.rules.specs.Streams.{sample, same};
 ghost use Rattle.ringside.specs.Meaning.{stream-of, Near};
-ghost use Rattle.walk.specs.Both.{Rings, both, count, facing, corner-at, listed-at};
+ghost use Rattle.walk.specs.Both.{Corners, both, count, facing, corner-at, listed-at};
 use ringside::Stream;
 use ringside::at;
 
@@ -50,7 +50,7 @@ fn faced(up: bool, s: Stream) -> Stream
 
 // The corner at place k of both rings.
 fn corner(east: &[i32], north: &[i32], east2: &[i32], north2: &[i32], k: usize) -> Stream
-    requires { ⌜ Rings (now east) (now north) (now east2) (now north2) × (k < count (now east) (now east2)) ⌝ }
+    requires { ⌜ Corners (now east) (now north) (now east2) (now north2) × (k < count (now east) (now east2)) ⌝ }
     ensures { λ r. ⌜ stream-of r ≡ sample (both (now (east .entry)) (now (north .entry)) (now (east2 .entry)) (now (north2 .entry))) k ⌝ }
 {
     if k < east.len() {
@@ -68,7 +68,7 @@ pub fn seen(
     up: bool,
     k: usize,
 ) -> Stream
-    requires { ⌜ Rings (now east) (now north) (now east2) (now north2) × (k < count (now east) (now east2)) ⌝ }
+    requires { ⌜ Corners (now east) (now north) (now east2) (now north2) × (k < count (now east) (now east2)) ⌝ }
     ensures { λ r. ⌜ stream-of r ≡ corner-at (now (east .entry)) (now (north .entry)) (now (east2 .entry)) (now (north2 .entry)) up k ⌝ }
 {
     faced(up, corner(east, north, east2, north2, k))
@@ -84,7 +84,7 @@ pub fn listed(
     w: &[u32],
     i: usize,
 ) -> Stream
-    requires { ⌜ Rings (now east) (now north) (now east2) (now north2) × (i < length (now w))
+    requires { ⌜ Corners (now east) (now north) (now east2) (now north2) × (i < length (now w))
         × (getD (now w) i 0 < count (now east) (now east2)) ⌝ }
     ensures { λ r. ⌜ stream-of r ≡ listed-at (now (east .entry)) (now (north .entry)) (now (east2 .entry)) (now (north2 .entry)) up (now (w .entry)) i ⌝ }
 {

@@ -2,7 +2,7 @@
 
 ghost use mathlib.Core.Path.{_≡_};
 ghost use Rattle.stack.specs.Walk.{Draws};
-ghost use Rattle.walk.specs.Both.{Rings, Span, WestEnd, Spans, Drawn, AtFirst, AtSecond};
+ghost use Rattle.walk.specs.Both.{Corners, Span, WestEnd, Spans, Drawn, AtFirst, AtSecond};
 use crate::corners::seen;
 use crate::corners::west;
 
@@ -24,7 +24,7 @@ fn west_end(
     lo: usize,
     hi: usize,
 ) -> usize
-    requires { ⌜ Rings (now east) (now north) (now east2) (now north2) × Span (now east) (now north) (now east2) (now north2) lo hi ⌝ }
+    requires { ⌜ Corners (now east) (now north) (now east2) (now north2) × Span (now east) (now north) (now east2) (now north2) lo hi ⌝ }
     ensures { λ r. ⌜ WestEnd (now (east .entry)) (now (north .entry)) (now (east2 .entry)) (now (north2 .entry)) lo hi r ⌝ }
 {
     let last = hi - 1;
@@ -93,7 +93,7 @@ pub fn draw(
     c: usize,
     d: usize,
 ) -> Left
-    requires { ⌜ Rings (now east) (now north) (now east2) (now north2) × Spans (now east) (now north) (now east2) (now north2) a b c d ⌝ }
+    requires { ⌜ Corners (now east) (now north) (now east2) (now north2) × Spans (now east) (now north) (now east2) (now north2) a b c d ⌝ }
     ensures { λ r. ⌜ Drawn (now (east .entry)) (now (north .entry)) (now (east2 .entry)) (now (north2 .entry)) a b c d
         (r .place) (r .a) (r .b) (r .c) (r .d) ⌝ }
 {

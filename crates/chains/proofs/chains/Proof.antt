@@ -7,8 +7,8 @@ use Rattle.samples.specs.Tests.{tested-of, sample-tests}
 use Rattle.samples.specs.declared.tests.Tested.{Tested}
 use Rattle.samples.specs.declared.tests.Tested.the-variants.{Passed}
 use Rattle.chains.specs.declared.sides.Sides.{Sides}
-use Rattle.chains.specs.Sides.{SidesSay, BothAre}
-use Rattle.chains.proofs.Answers.{refused-early, sides-ask, answered}
+use Rattle.chains.specs.Sides.{SidesSay, BothAre, sides-ask}
+use Rattle.chains.proofs.Answers.{refused-early, answered}
 use Rattle.chains.proofs.chains.Statement.{statement}
 use Rattle.chains.proofs.chains.Tie as tie
 
@@ -32,7 +32,7 @@ sides-of-requires : tie.Need-sides-of-requires
 sides-of-requires c κs =
     let d = c .before in
     let a = d .before .before .before .before .before .before .args in
-    sides-ask (a .east .now) (a .north .now) (a .upper .now) (a .lower .now) (a .scratch .now) (passed d)
+    sides-ask (a .east .now) (a .north .now) (a .scratch .now) (passed d)
 
 -- what is said of both sides
 sides-said : (c : tie.After-sides-of) (r : Sides) → c .sides-of .result ≡ r → let a = c .before .before .before .before .before .before .before .before .args in

@@ -11,8 +11,9 @@ use Rattle.rules.specs.Refusals.{Answer, done, too-many, scratch-short}
 use Rattle.rules.specs.Entries.{ring-short, join-answer}
 use Rattle.ringside.specs.Tests.{refuses, passes}
 use Rattle.walk.specs.Both.{count}
-use Rattle.join.specs.Meaning.{tested-as, ring-verdict, unless-short, Outcome}
-use Rattle.join.specs.Verdict.{first-refused, second-refused, many-refused, scratch-refused, all-pass, verdict-sound, two-sound, outcome-refused, verdict-number}
+use Rattle.closing.specs.Meaning.{unless-short, Outcome, outcome-refused}
+use Rattle.join.specs.Meaning.{tested-as, ring-verdict}
+use Rattle.join.specs.Verdict.{first-refused, second-refused, many-refused, scratch-refused, all-pass, verdict-sound, two-sound, verdict-number}
 use Rattle.join.proofs.join.Statement.{statement}
 use Rattle.join.proofs.join.Tie as tie
 

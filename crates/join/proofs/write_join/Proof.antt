@@ -1,61 +1,48 @@
--- `join::write_join` meets its contract.
+-- `join::write_join` meets its contract: both chains close to the join.
 -- Assumes nothing.
+use mathlib.Core.Path.{_∙_}
+use Prim.Native.Nat.{_-_}
 use borrow.Author.Needs.{needs}
-use denote.Ref.{now}
-use Rattle.rules.specs.Streams.{streams}
-use Rattle.rules.specs.Use.{join}
-use Rattle.join.specs.Both.{ring-corner}
-use Rattle.join.specs.Written.{cleared, outcome-east-short, outcome-north-short, outcome-done}
+use borrow.Rule.Slice.PartMut.{same-len-mid}
+use lib.ListN.{length}
+use Rattle.closing.specs.Meaning.{outcome-from}
+use Rattle.join.specs.Ring.{chained-both, chained-ring}
 use Rattle.join.proofs.write_join.Statement.{statement}
 use Rattle.join.proofs.write_join.Tie as tie
 
+close-requires : tie.Need-close-requires
+close-requires c κs =
+    let lower = c .before .before .before .before .before in
+    let upper = lower .before .before .before .before in
+    let a = upper .chain in (
+      upper .before .before .before .pre .0 .corners,
+      chained-both (length (a .last .1 .1 .1 .1 .1 .0) - a .result) (a .ensures) (lower .chain2 .ensures),
+    )
+
 returns : tie.Need-returns
 returns c =
-    let at = c .before .before .before .before .before .before .before in
-    let a = at .before .before .before .args in
-    let ring = at .ring-of in
-    let w = ring .last .1 .1 .1 .1 .0 in
-    outcome-east-short (join (streams (now (a .east)) (now (a .north))) (streams (now (a .east2)) (now (a .north2))))
-    (ring-corner (now (a .east)) (now (a .north)) (now (a .east2)) (now (a .north2)) w (ring .result .upper) (ring .result .hi)) (ring .result .count)
-    (ring .ensures .corners) (now (a .out-east)) (now (a .out-north)) (now (a .scratch)) (c .before .before .before .before .if1 .taken)
-    (cleared (now (a .scratch)) w (c .before .before .clear .ensures) (ring .kept .1 .1 .1 .1 .0))
-
-returns-2 : tie.Need-returns-2
-returns-2 c =
-    let at = c .before .before .before .before .before .before .before .before in
-    let a = at .before .before .before .args in
-    let ring = at .ring-of in
-    let w = ring .last .1 .1 .1 .1 .0 in
-    outcome-north-short (join (streams (now (a .east)) (now (a .north))) (streams (now (a .east2)) (now (a .north2))))
-    (ring-corner (now (a .east)) (now (a .north)) (now (a .east2)) (now (a .north2)) w (ring .result .upper) (ring .result .hi)) (ring .result .count)
-    (ring .ensures .corners) (now (a .out-east)) (now (a .out-north)) (now (a .scratch)) (c .before .before .before .before .if2 .taken)
-    (cleared (now (a .scratch)) w (c .before .before .clear2 .ensures) (ring .kept .1 .1 .1 .1 .0))
-
-returns-3 : tie.Need-returns-3
-returns-3 c =
-    let at = c .before .before .before .before .before .before .before .before .before .before .before .before .before .before in
-    let a = at .before .before .before .args in
-    let ring = at .ring-of in
-    let w = ring .last .1 .1 .1 .1 .0 in
-    outcome-done (join (streams (now (a .east)) (now (a .north))) (streams (now (a .east2)) (now (a .north2))))
-    (ring-corner (now (a .east)) (now (a .north)) (now (a .east2)) (now (a .north2)) w (ring .result .upper) (ring .result .hi)) (ring .result .count)
-    (ring .ensures .corners) (now (a .out-east)) (now (a .out-north)) (now (a .scratch)) (c .before .before .before .before .before .before .before .before .before .before .before .if1 .left) (c .before .before .before .before .before .before .before .before .before .before .if2 .left)
-    (c .before .before .before .before .before .before .put .ensures .0) (c .before .before .before .before .before .before .put .ensures .1) (cleared (now (a .scratch)) w (c .before .before .clear3 .ensures) (ring .kept .1 .1 .1 .1 .0))
+    let at = c .before .before .before .before in
+    let lower = at .before .before .before .before .before .before in
+    let upper = lower .before .before .before .before in
+    let start = upper .before .before .before in
+    let v = upper .chain .last .1 .1 .1 .1 .1 .0 in
+    let u = upper .chain .result in
+    outcome-from (chained-ring (length v - u) (upper .chain .ensures) (lower .chain2 .ensures) (start .pre .0 .corners))
+    (same-len-mid u (length v - u) v (lower .chain2 .last .1 .1 .1 .1 .1 .0) (lower .chain2 .kept .1 .1 .1 .1 .1 .0) ∙ upper .chain .kept .1 .1 .1 .1 .1 .0)
+    (at .close .ensures)
 
 pub write-join-spec : {M : Type 1} → statement M
 write-join-spec =
     tie.close
     (tie.spec
     (λ c κs. search needs)
+    (λ c. search needs)
+    (λ c. search needs)
+    (λ c. search needs)
+    (λ c. search needs)
     (λ c κs. search needs)
-    (λ c. search needs)
-    returns
-    (λ c κs. search needs)
-    (λ c. search needs)
-    returns-2
-    (λ c κs. search needs)
-    (λ c κs. search needs)
+    close-requires
     (λ c. search needs)
     (λ c. search needs)
     (λ c. search needs)
-    returns-3)
+    returns)

@@ -6,8 +6,8 @@ use borrow.Author.Needs.{needs}
 use Rattle.rules.specs.Streams.{Stream}
 use Rattle.rules.specs.Refusals.{Answer}
 use Rattle.rules.specs.Entries.{join-answer}
-use Rattle.join.specs.Meaning.{joined-as}
-use Rattle.join.specs.declared.Joined.{Joined}
+use Rattle.closing.specs.Meaning.{ringed-as}
+use Rattle.closing.specs.declared.Ringed.{Ringed}
 use Rattle.join.proofs.join.Reads as entry
 use Rattle.exports.specs.Rings.{counted-face, count-face, counted-is}
 use Rattle.exports.proofs.joins.nuoskelma_join.Statement.{statement}
@@ -21,8 +21,8 @@ answered c =
     join-answer (g .east .now) (g .north .now) (g .east2 .now) (g .north2 .now) (g .easts .now) (g .norths .now) (g .scratch .now)
 
 -- an answer's face, from what the answer counts
-face : (c : lts.After-join (entry.Asked, entry.Learnt) reads.Pre reads.Post) {r : Joined} → c .join .result ≡ r → count-face (joined-as r) ≡ counted-face (answered c)
-face c e = ap (λ (r : Joined). count-face (joined-as r)) (sym e) ∙ ap count-face (c .join .ensures .says) ∙ counted-is (answered c)
+face : (c : lts.After-join (entry.Asked, entry.Learnt) reads.Pre reads.Post) {r : Ringed} → c .join .result ≡ r → count-face (ringed-as r) ≡ counted-face (answered c)
+face c e = ap (λ (r : Ringed). count-face (ringed-as r)) (sym e) ∙ ap count-face (c .join .ensures .says) ∙ counted-is (answered c)
 
 returns : tie.Need-returns
 returns c =

@@ -21,14 +21,14 @@ loop-holds : tie.Need-loop-holds Inv-loop μ-loop
 loop-holds c = (refl, walking-start)
 
 draw-requires : tie.Need-draw-requires Inv-loop μ-loop
-draw-requires c κs = let p = c .before .before .before .pre in (p .0, walking-spans (c .before .loop .inv .1) (p .0) (c .loop-test .taken))
+draw-requires c κs = let p = c .before .before .before .pre in (p .0 .corners, walking-spans (c .before .loop .inv .1) (p .0) (c .loop-test .taken))
 
 taken-requires : tie.Need-taken-requires Inv-loop μ-loop
 taken-requires c κs =
     let p = c .before .before .before .before .before .pre in
     let inv = c .before .before .before .loop .inv in
     let m = c .before .draw .ensures .draws .without .inside in
-    (p .0, walking-below (inv .1) m, inv .1 .stand, (omega arith), walking-next (inv .1) m)
+    (p .0 .corners, walking-below (inv .1) m, inv .1 .stand, (omega arith), walking-next (inv .1) m)
 
 loop-again : tie.Need-loop-again Inv-loop μ-loop
 loop-again c =

@@ -1,4 +1,4 @@
--- `join::closing::left_in` meets its contract.
+-- `closing::lower::left_in` meets its contract.
 -- Assumes nothing.
 use mathlib.Core.Path.{_≡_, sym, _∙_}
 use mathlib.Core.Logic.{⊎-elim}
@@ -9,9 +9,9 @@ use native.Mathlib.Omega.{arith}
 use denote.Ref.{now}
 use Rattle.rules.specs.Streams.{same}
 use Rattle.stack.specs.Closing.{closes-none, closes-all, closes-left, closes-open}
-use Rattle.join.specs.Both.{upper-at, lower-at}
-use Rattle.join.proofs.closing.left_in.Statement.{statement}
-use Rattle.join.proofs.closing.left_in.Tie as tie
+use Rattle.closing.specs.Both.{upper-at, lower-at}
+use Rattle.closing.proofs.lower.left_in.Statement.{statement}
+use Rattle.closing.proofs.lower.left_in.Tie as tie
 
 -- the lower chain has a corner, so the upper has one
 some : (c : tie.Else1) → 0 < c .before .before .args .u

@@ -1,4 +1,4 @@
--- `join::closing::put` meets its contract. The loop's invariant: the first i corners are written, and the rest is as it was.
+-- `closing::writing::put` meets its contract. The loop's invariant: the first i corners are written, and the rest is as it was.
 -- Assumes nothing.
 use mathlib.Core.Path.{_≡_, refl, ap, _∙_}
 use mathlib.Core.Bool.{true}
@@ -13,11 +13,11 @@ use denote.Ref.{now}
 use Rattle.ringside.specs.Meaning.{stream-of}
 use Rattle.stack.specs.Places.{listed, written-on}
 use Rattle.walk.specs.Both.{listed-at}
-use Rattle.join.specs.Both.{ring-corner}
-use Rattle.join.specs.Both.{ring-place-below, ring-corner-at}
+use Rattle.closing.specs.Both.{ring-corner}
+use Rattle.closing.specs.Both.{ring-place-below, ring-corner-at}
 use Rattle.walk.specs.Words.{east-of, north-of}
-use Rattle.join.proofs.closing.put.Statement.{statement}
-use Rattle.join.proofs.closing.put.Tie as tie
+use Rattle.closing.proofs.writing.put.Statement.{statement}
+use Rattle.closing.proofs.writing.put.Tie as tie
 
 abbrev Inv-loop : tie.InvT-loop
 Inv-loop east north east2 north2 w u hi n out-east₀ out-north₀ i₀ out-east out-north i =

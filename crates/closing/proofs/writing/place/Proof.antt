@@ -1,11 +1,11 @@
--- `join::closing::place` meets its contract.
+-- `closing::writing::place` meets its contract.
 -- Assumes nothing.
 use mathlib.Core.Path.{refl}
 use borrow.Author.Needs.{needs}
 use borrow.Author.Tests.{lt-ltb, le-ltb}
 use native.Mathlib.Omega.{arith}
-use Rattle.join.proofs.closing.place.Statement.{statement}
-use Rattle.join.proofs.closing.place.Tie as tie
+use Rattle.closing.proofs.writing.place.Statement.{statement}
+use Rattle.closing.proofs.writing.place.Tie as tie
 
 returns : tie.Need-returns
 returns c = rw (lt-ltb _ _ (c .if1 .taken)) refl

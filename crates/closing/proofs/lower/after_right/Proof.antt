@@ -1,11 +1,11 @@
--- `join::closing::after_right` meets its contract.
+-- `closing::lower::after_right` meets its contract.
 -- Assumes nothing.
 use mathlib.Core.Path.{refl, sym, _∙_}
 use Prim.Native.Nat.{_+_, _-_}
 use borrow.Author.Needs.{needs}
 use native.Mathlib.Omega.{arith}
-use Rattle.join.proofs.closing.after_right.Statement.{statement}
-use Rattle.join.proofs.closing.after_right.Tie as tie
+use Rattle.closing.proofs.lower.after_right.Statement.{statement}
+use Rattle.closing.proofs.lower.after_right.Tie as tie
 
 same-at-requires : tie.Need-same-at-requires
 same-at-requires c κs =

@@ -1,24 +1,20 @@
--- The last test of a join and what it leaves: a ring of n corners is written, or an output is too short for it. Assumes nothing.
+-- The last test of an entry that writes a ring, and what it leaves: a ring of n corners is written, or an output is too short for it. Assumes nothing.
 use mathlib.Core.Path.{_≡_, refl, sym, ap, ap₂, _∙_, subst}
 use mathlib.Core.Bool.{Bool, true, false, cond, _||_, or-true}
 use mathlib.Core.List.{List, _++_, map}
 use Prim.Native.Nat.{ℕ, _≤_, _<_}
 use lib.IntN.{ℤ}
 use lib.Dec.{ltb}
-use lib.ListN.{length, drop, replicate}
+use lib.ListN.{length, drop}
 use borrow.Author.Tests.{lt-ltb, le-ltb}
 use Rattle.rules.specs.Lists.{written, zeros}
 use Rattle.rules.specs.Streams.{Stream}
 use Rattle.rules.specs.Refusals.{Answer, refused, done}
 use Rattle.rules.specs.Entries.{easts, norths}
 use Rattle.stack.specs.Places.{listed, length-listed, map-listed}
-use Rattle.join.specs.declared.Joined.{Joined}
-use Rattle.join.specs.declared.Joined.the-variants as joined
-use Rattle.join.specs.Meaning.{unless-short, Outcome}
-
--- scratch that was cleared when it held other words
-pub cleared : {after : List ℕ} (old w : List ℕ) → after ≡ zeros w → length w ≡ length old → after ≡ zeros old
-cleared old w e h = e ∙ ap (λ (m : ℕ). replicate m 0) h
+use Rattle.closing.specs.declared.Ringed.{Ringed}
+use Rattle.closing.specs.declared.Ringed.the-variants as ringed
+use Rattle.closing.specs.Meaning.{unless-short, Outcome}
 
 -- a ring of n corners f
 module _ (R : List Stream) (f : ℕ → Stream) (n : ℕ) (e : R ≡ listed f n) (east north : List ℤ) (scratch : List ℕ) where
@@ -31,17 +27,17 @@ module _ (R : List Stream) (f : ℕ → Stream) (n : ℕ) (e : R ≡ listed f n)
 
   -- an output is too short
   short : {scratch' : List ℕ} → (ltb (length east) n || ltb (length north) n) ≡ true → scratch' ≡ zeros scratch
-      → Outcome (unless-short east north R) (joined.Refused 5 0) east east north north scratch scratch'
+      → Outcome (unless-short east north R) (ringed.Refused 5 0) east east north north scratch scratch'
   short {scratch'} h z =
-      subst (λ (a : Answer (List Stream)). Outcome a (joined.Refused 5 0) east east north north scratch scratch') (told true h)
+      subst (λ (a : Answer (List Stream)). Outcome a (ringed.Refused 5 0) east east north north scratch scratch') (told true h)
       (record { says = refl; east-after = refl; north-after = refl; scratch-is = z })
 
   pub outcome-east-short : {scratch' : List ℕ} → length east < n → scratch' ≡ zeros scratch
-      → Outcome (unless-short east north R) (joined.Refused 5 0) east east north north scratch scratch'
+      → Outcome (unless-short east north R) (ringed.Refused 5 0) east east north north scratch scratch'
   outcome-east-short h z = short (ap (λ (b : Bool). b || ltb (length north) n) (lt-ltb (length east) n h)) z
 
   pub outcome-north-short : {scratch' : List ℕ} → length north < n → scratch' ≡ zeros scratch
-      → Outcome (unless-short east north R) (joined.Refused 5 0) east east north north scratch scratch'
+      → Outcome (unless-short east north R) (ringed.Refused 5 0) east east north north scratch scratch'
   outcome-north-short h z = short (ap (λ (b : Bool). ltb (length east) n || b) (lt-ltb (length north) n h) ∙ or-true (ltb (length east) n)) z
 
   -- a part of each corner is written
@@ -52,9 +48,9 @@ module _ (R : List Stream) (f : ℕ → Stream) (n : ℕ) (e : R ≡ listed f n)
 
   pub outcome-done : {east' north' : List ℤ} {scratch' : List ℕ} → n ≤ length east → n ≤ length north
       → east' ≡ listed (λ i. f i .east) n ++ drop n east → north' ≡ listed (λ i. f i .north) n ++ drop n north → scratch' ≡ zeros scratch
-      → Outcome (unless-short east north R) (joined.Corners n) east east' north north' scratch scratch'
+      → Outcome (unless-short east north R) (ringed.Corners n) east east' north north' scratch scratch'
   outcome-done {east'} {north'} {scratch'} h k p q z =
-      subst (λ (a : Answer (List Stream)). Outcome a (joined.Corners n) east east' north north' scratch scratch')
+      subst (λ (a : Answer (List Stream)). Outcome a (ringed.Corners n) east east' north north' scratch scratch')
       (told false (ap₂ _||_ (le-ltb (length east) n h) (le-ltb (length north) n k)))
       (record {
         says = ap done (sym count);

@@ -1,4 +1,4 @@
--- Both chains of a join in one list of places, and the ring that they close to, by its places; what the parts of the code say to each other of them.
+-- Both chains in one list of places, and the ring that they close to, by its places; what the parts of the code say to each other of them.
 -- Assumes nothing.
 use mathlib.Core.Path.{_≡_, refl}
 use mathlib.Core.Logic.{_⊎_}
@@ -10,9 +10,7 @@ use lib.IntN.{ℤ}
 use lib.Dec.{ltb}
 use lib.ListN.{length, getD}
 use borrow.Author.Tests.{ltb-false}
-use Rattle.rules.specs.Streams.{Stream, streams}
-use Rattle.rules.specs.Use.{join}
-use Rattle.stack.specs.Places.{listed}
+use Rattle.rules.specs.Streams.{Stream}
 use Rattle.stack.specs.Closing.{ring-at}
 use Rattle.walk.specs.Both.{count, listed-at, Stand}
 
@@ -51,12 +49,6 @@ pub record Room (n : ℕ) (w : List ℕ) (u hi m : ℕ) (east north : List ℤ) 
   pub few : m ≤ u + hi
   pub east-room : m ≤ length east
   pub north-room : m ≤ length north
-
--- the join of both rings stands in w: m corners, on the upper chain's u places and on the way back from hi
-pub record RingIn (es ns fs ms : List ℤ) (w : List ℕ) (u hi m : ℕ) : Type 0 where
-  pub corners : join (streams es ns) (streams fs ms) ≡ listed (ring-corner es ns fs ms w u hi) m
-  pub stand : Stand (count es fs) w (u + hi)
-  pub few : m ≤ u + hi
 
 -- ---- the ring's places
 

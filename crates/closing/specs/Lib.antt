@@ -1,0 +1,3 @@
+pub mod Both
+pub mod Meaning
+pub mod Written
