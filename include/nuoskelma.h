@@ -72,7 +72,7 @@ typedef struct {
 nuoskelma_bridged nuoskelma_bridge(const int32_t *east, size_t east_len, const int32_t *north, size_t north_len, int32_t a, uint32_t *scratch,
     size_t scratch_len);
 
-/* ---- Chains. Both chains go left to right; each corner is reported by the lowest sample number at its position. */
+/* ---- Chains and ring. Both chains go left to right; each corner is reported by the lowest sample number at its position. */
 #define NUOSKELMA_HAS_CHAINS 1
 
 typedef struct {
@@ -90,6 +90,24 @@ typedef struct {
  */
 nuoskelma_chained nuoskelma_chains(const int32_t *east, size_t east_len, const int32_t *north, size_t north_len, uint32_t *upper, size_t upper_len,
     uint32_t *lower, size_t lower_len, uint32_t *scratch, size_t scratch_len);
+
+/* How many corners were written. */
+typedef struct {
+    uint32_t number;
+    size_t place;
+    size_t count;
+} nuoskelma_counted;
+
+#define NUOSKELMA_HAS_RING 1
+
+/*
+ * The ring of the samples, its corners in ring order at the front of two output lists of parts, and its count: the upper chain, then the lower chain right to
+ * left. What lies beyond it in the lists stays. No samples: the ring is empty. Scratch has at least 16 words for each sample and 64 more; all of it is zero
+ * afterwards.
+ * Refused: 1, 2, 3, 4 and 18 as for the chains; 5, an output list is shorter than the ring. After 5 and 18 all the scratch is zero.
+ */
+nuoskelma_counted nuoskelma_ring(const int32_t *east, size_t east_len, const int32_t *north, size_t north_len, int32_t *out_east, size_t out_east_len,
+    int32_t *out_north, size_t out_north_len, uint32_t *scratch, size_t scratch_len);
 
 /* ---- Ring hand: goes round the corners of a ring, edge by edge. */
 #define NUOSKELMA_HAS_HAND 1
@@ -156,13 +174,6 @@ typedef struct {
  * Refused: 1, 2, 3 (the ring, then the stream with place 0) and 9, as for the strongest set.
  */
 nuoskelma_cover_told nuoskelma_cover(const int32_t *east, size_t east_len, const int32_t *north, size_t north_len, int32_t x, int32_t y);
-
-/* How many corners were written. */
-typedef struct {
-    uint32_t number;
-    size_t place;
-    size_t count;
-} nuoskelma_counted;
 
 /*
  * The ring turned about: the ring of all its positions with both signs changed, at the front of two output lists, and its count. What lies beyond it in them

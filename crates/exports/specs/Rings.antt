@@ -1,6 +1,6 @@
 -- What the C face of the uses of a ring gives for each answer of the rules: number 0 and the values, or the refusal's number and place.
 -- Assumes nothing.
-use mathlib.Core.Path.{_≡_, refl}
+use mathlib.Core.Path.{_≡_, refl, ap, _∙_}
 use mathlib.Core.Bool.{Bool, true, false}
 use mathlib.Core.List.{List}
 use Prim.Native.Nat.{ℕ}
@@ -10,6 +10,8 @@ use Rattle.rules.specs.Streams.{Stream}
 use Rattle.rules.specs.Refusals.{Answer, refused, done}
 use Rattle.rules.specs.Entries.{Strongest, easts, norths}
 use Rattle.envelope.specs.Meaning.{counted}
+use Rattle.closing.specs.Meaning.{ringed-as, Outcome}
+use Rattle.closing.specs.declared.Ringed.{Ringed}
 use Rattle.exports.specs.declared.rings.StrongestC.{StrongestC}
 use Rattle.exports.specs.declared.rings.CoverTold.{CoverTold}
 use Rattle.exports.specs.declared.rings.Counted.{Counted}
@@ -36,6 +38,11 @@ count-face (refused number place) = record { number = number; place = place; cou
 pub counted-is : (a : Answer (List Stream)) → count-face (counted a) ≡ counted-face a
 counted-is (done r) = refl
 counted-is (refused number place) = refl
+
+-- and from what an entry that writes a ring promises
+pub outcome-face : {answer : Answer (List Stream)} {r : Ringed} {east east' north north' : List ℤ} {scratch scratch' : List ℕ}
+    → Outcome answer r east east' north north' scratch scratch' → count-face (ringed-as r) ≡ counted-face answer
+outcome-face {answer} o = ap count-face (o .says) ∙ counted-is answer
 
 -- the parts of a ring's corners, as they are written to the two output lists
 abbrev pub parts-east : List Stream → List ℤ
