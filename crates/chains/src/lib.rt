@@ -1,5 +1,5 @@
 // The chains of samples, and their ring. Both chains are made in scratch, by chain steps; outputs are written when the whole result is known and fits.
-mod sides;
+pub mod sides;
 mod write;
 
 use samples::tests::Tested;
