@@ -17,11 +17,11 @@ use Rattle.outline.specs.Lists.{those-most, those-in}
 use Rattle.rounds.specs.Items.{first-of-in}
 use Rattle.rounds.specs.Pairs.{here}
 use Rattle.rounds.specs.WholeList.{numbers, numbers-length}
-use Rattle.samples.specs.Positions.{Sampled, Listed, at, east-of}
+use Rattle.samples.specs.Positions.{Listed, at, east-of}
 use Rattle.step.specs.Lists.{between, first-numbers, FirstAsks, Listing}
-use Rattle.step.specs.Ends.{EndAsks, EndOf, nearest}
+use Rattle.step.specs.Ends.{EndOf, nearest}
 use Rattle.step.specs.Chaining.{Chainable, chain-numbers}
-use Rattle.step.specs.Stepping.{facing, number-at, ChainAsks, ChainIs, ChainSays}
+use Rattle.step.specs.Stepping.{facing, number-at, ChainAsks, ChainSays}
 use Rattle.step.specs.First.{first-chainable, first-chain, end-is}
 use Rattle.step.specs.declared.Stepped.{Stepped}
 use Rattle.step.specs.declared.Stepped.the-variants.{Chain, NoBridge}
