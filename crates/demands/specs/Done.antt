@@ -4,7 +4,6 @@ use mathlib.Core.Bool.{Bool, true, false, cond}
 use mathlib.Core.List.{List, [], _∷_}
 use Prim.Native.Nat.{ℕ}
 use native.Mathlib.Omega.{arith}
-use lib.IntN.{ℤ}
 use lib.ListN.{length, take, drop}
 use lib.Seq.{take-at}
 use Rattle.rules.specs.Streams.{Stream, streams}
@@ -33,7 +32,7 @@ counted-done (done r) e = (r, refl, cc)
 counted-done (refused number place) e = absurd (let z : _≡_ {A = ℕ} 0 1 = cc in omega arith)
 
 -- what is written at the front can be read there
-pub front : (result old : List ℤ) (n : ℕ) → length result ≡ n → take n (written result old) ≡ result
+pub front : {A : Type 0} (result old : List A) (n : ℕ) → length result ≡ n → take n (written result old) ≡ result
 front result old n e = take-at result (drop (length result) old) n e
 
 -- a ring is its parts again

@@ -1,4 +1,5 @@
 pub mod Done
+pub mod Chains
 pub mod Joined
 pub mod Turned
 pub mod Strongest
