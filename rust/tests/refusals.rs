@@ -140,6 +140,13 @@ fn no_9_not_an_envelope() {
 }
 
 #[test]
+fn the_first_ring_before_the_second() {
+    let mut r = room();
+    assert_eq!(join(&[0, 0], &[1, 1], &[0, LIMIT + 1], &[0, 0], &mut r.first, &mut r.second, &mut []), no(9, 0));
+    assert_eq!(join(&[0, LIMIT + 1], &[0, 0], &[0, 0], &[1, 1], &mut r.first, &mut r.second, &mut []), no(3, 1));
+}
+
+#[test]
 fn no_10_and_11_an_empty_ring_a_hand_beside_it_and_no_course() {
     assert_eq!(Hand::made_for(0), no(10, 0));
     assert_eq!(Hand { count: 3, place: 3 }.step(), no(10, 0));

@@ -51,9 +51,12 @@ fn p9_p10_joined_and_turned_about() {
 #[test]
 fn p11_p12_strongest_set_and_cover_of_a() {
     assert_eq!(strongest(&RING_EAST, &RING_NORTH, -1, 1), Ok(StrongestSet { set: 3, place: 0 }));
+    // two places have it: the first
+    assert_eq!(strongest(&RING_EAST, &RING_NORTH, 1, 0), Ok(StrongestSet { set: 4, place: 2 }));
     assert_eq!(cover(&RING_EAST, &RING_NORTH, 2, 1), Ok(true));
+    assert_eq!(cover(&RING_EAST, &RING_NORTH, 2, 4), Ok(true));
     // on the outline, outside, and a ring of two corners
-    assert_eq!(cover(&RING_EAST, &RING_NORTH, 4, 1), Ok(false));
+    assert_eq!(cover(&RING_EAST, &RING_NORTH, 4, 2), Ok(false));
     assert_eq!(cover(&RING_EAST, &RING_NORTH, 5, 1), Ok(false));
     assert_eq!(cover(&[0, 4], &[0, 0], 2, 0), Ok(false));
 }
