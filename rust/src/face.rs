@@ -109,6 +109,10 @@ extern "C" {
         east: *const i32, east_len: usize, north: *const i32, north_len: usize, upper: *mut u32, upper_len: usize, lower: *mut u32, lower_len: usize,
         scratch: *mut u32, scratch_len: usize,
     ) -> Chained;
+    fn nuoskelma_ring(
+        east: *const i32, east_len: usize, north: *const i32, north_len: usize, easts: *mut i32, easts_len: usize, norths: *mut i32,
+        norths_len: usize, scratch: *mut u32, scratch_len: usize,
+    ) -> Counted;
     fn nuoskelma_hand_for(corners: usize) -> HandMade;
     fn nuoskelma_hand_step(hand: Hand) -> HandStepped;
     fn nuoskelma_strongest(east: *const i32, east_len: usize, north: *const i32, north_len: usize, x: i32, y: i32) -> StrongestSet;
@@ -168,6 +172,23 @@ pub fn chains(east: &[i32], north: &[i32], upper: &mut [u32], lower: &mut [u32],
             upper.len(),
             lower.as_mut_ptr(),
             lower.len(),
+            scratch.as_mut_ptr(),
+            scratch.len(),
+        )
+    }
+}
+
+pub fn ring(east: &[i32], north: &[i32], out_east: &mut [i32], out_north: &mut [i32], scratch: &mut [u32]) -> Counted {
+    unsafe {
+        nuoskelma_ring(
+            east.as_ptr(),
+            east.len(),
+            north.as_ptr(),
+            north.len(),
+            out_east.as_mut_ptr(),
+            out_east.len(),
+            out_north.as_mut_ptr(),
+            out_north.len(),
             scratch.as_mut_ptr(),
             scratch.len(),
         )

@@ -31,7 +31,7 @@ mod scratch;
 mod using;
 
 pub use door::{part, read_record, readings};
-pub use outline::{bridge, chains, pick, round, Bridge, Chains, Round};
+pub use outline::{bridge, chains, pick, ring, round, Bridge, Chains, Round};
 pub use refusal::{DoorRefusal, Refusal};
 pub use scratch::{scratch_words, Scratch};
 pub use using::{cover, join, strongest, turn_about, Edge, Hand, StrongestSet};

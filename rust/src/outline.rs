@@ -1,4 +1,4 @@
-//! The method: rank picker, round, bridge, chains.
+//! The method: rank picker, round, bridge, chains, ring.
 
 use crate::face;
 use crate::refusal::{unless_refused, Refusal};
@@ -118,4 +118,26 @@ pub struct Chains {
 pub fn chains(east: &[i32], north: &[i32], upper: &mut [u32], lower: &mut [u32], scratch: &mut [u32]) -> Result<Chains, Refusal> {
     let r = face::chains(east, north, upper, lower, scratch);
     unless_refused(r.number, r.place, Chains { upper: r.upper, lower: r.lower })
+}
+
+/// The ring of the samples, as positions at the front of two output lists, whose rest stays; and how many corners it has. The upper chain, then the lower chain
+/// right to left, without an end that both chains have.
+///
+/// Scratch: [`scratch_words`](crate::scratch_words) of the count of samples; all of it is zero afterwards.
+///
+/// # Errors
+/// 1, the two lists of parts differ in length; 2, over 65,536 samples; 3, a part beyond the limit, at its first place; 4, scratch too short; 18, a chain step's
+/// list has no bridge over its a; 5, an output list is shorter than the ring.
+///
+/// ```
+/// use nuoskelma::{ring, Scratch};
+///
+/// let (east, north) = ([0, 4, 4, 0, 2, 2, 4], [0, 0, 3, 3, 1, 5, 0]);
+/// let (mut easts, mut norths) = ([0; 7], [0; 7]);
+/// let corners = ring(&east, &north, &mut easts, &mut norths, &mut Scratch::of(7)).unwrap();
+/// assert_eq!((&easts[..corners], &norths[..corners]), (&[0, 2, 4, 4, 0][..], &[3, 5, 3, 0, 0][..]));
+/// ```
+pub fn ring(east: &[i32], north: &[i32], out_east: &mut [i32], out_north: &mut [i32], scratch: &mut [u32]) -> Result<usize, Refusal> {
+    let r = face::ring(east, north, out_east, out_north, scratch);
+    unless_refused(r.number, r.place, r.count)
 }
