@@ -37,6 +37,13 @@ pub struct Chained {
 }
 
 #[repr(C)]
+pub struct Counted {
+    pub number: u32,
+    pub place: usize,
+    pub count: usize,
+}
+
+#[repr(C)]
 #[derive(Clone, Copy)]
 pub struct Hand {
     pub count: usize,
@@ -75,13 +82,6 @@ pub struct CoverTold {
 }
 
 #[repr(C)]
-pub struct Counted {
-    pub number: u32,
-    pub place: usize,
-    pub count: usize,
-}
-
-#[repr(C)]
 pub struct PartTaken {
     pub number: u32,
     pub value: i32,
@@ -110,8 +110,8 @@ extern "C" {
         scratch: *mut u32, scratch_len: usize,
     ) -> Chained;
     fn nuoskelma_ring(
-        east: *const i32, east_len: usize, north: *const i32, north_len: usize, easts: *mut i32, easts_len: usize, norths: *mut i32,
-        norths_len: usize, scratch: *mut u32, scratch_len: usize,
+        east: *const i32, east_len: usize, north: *const i32, north_len: usize, out_east: *mut i32, out_east_len: usize, out_north: *mut i32,
+        out_north_len: usize, scratch: *mut u32, scratch_len: usize,
     ) -> Counted;
     fn nuoskelma_hand_for(corners: usize) -> HandMade;
     fn nuoskelma_hand_step(hand: Hand) -> HandStepped;

@@ -8,15 +8,17 @@
 //! Some functions are lent scratch: [`scratch_words`] says how much, [`Scratch`] has it ready.
 //!
 //! ```
-//! use nuoskelma::{cover, join, strongest, Scratch};
+//! use nuoskelma::{cover, ring, strongest, Scratch};
 //!
-//! // the ring of (2,5), (2,1), joined with that of (0,0), (4,0)
-//! let (mut easts, mut norths) = ([0; 4], [0; 4]);
-//! let corners = join(&[2, 2], &[5, 1], &[0, 4], &[0, 0], &mut easts, &mut norths, &mut Scratch::of(4))?;
+//! // seven samples, and their ring
+//! let (east, north) = ([0, 4, 4, 0, 2, 2, 4], [0, 0, 3, 3, 1, 5, 0]);
+//! let (mut easts, mut norths) = ([0; 7], [0; 7]);
+//! let corners = ring(&east, &north, &mut easts, &mut norths, &mut Scratch::of(7))?;
 //! let (easts, norths) = (&easts[..corners], &norths[..corners]);
-//! assert_eq!((easts, norths), (&[0, 2, 4][..], &[0, 5, 0][..]));
+//! assert_eq!((easts, norths), (&[0, 2, 4, 4, 0][..], &[3, 5, 3, 0, 0][..]));
 //!
-//! assert_eq!(strongest(easts, norths, 0, 1)?.set, 5);
+//! // the strongest set on the course (-1, 1), and whether the stream (2, 1) lies inside
+//! assert_eq!(strongest(easts, norths, -1, 1)?.set, 3);
 //! assert!(cover(easts, norths, 2, 1)?);
 //! # Ok::<(), nuoskelma::Refusal>(())
 //! ```
