@@ -4,3 +4,4 @@ pub mod Joined
 pub mod Turned
 pub mod Strongest
 pub mod Covered
+pub mod Soundings
