@@ -4,4 +4,6 @@ pub mod Joined
 pub mod Turned
 pub mod Strongest
 pub mod Covered
+pub mod Contracts
+pub mod Cases
 pub mod Soundings

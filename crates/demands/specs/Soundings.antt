@@ -1,29 +1,24 @@
--- The soundings that the rules mark P, over the promises of the entries: any outcome that the entry's own promise allows is the one that the rules name. The
--- values are those of the rules' table `soundings`, which is computed from the definitions; the promises cite the same definitions, so the table carries over
--- to outputs and scratch of any content that are long enough. `contracts` shows that the promises meant here are the contracts of the entries.
+-- The soundings that the rules mark P, over the promises of the entries: any outcome that an entry's own promise allows is the one that the rules name. The
+-- values come from the rules' table `soundings`, computed from the definitions; since the promises cite the same definitions the table holds of the entries, for
+-- outputs and scratch of any content that are long enough. That each entry's contract is the promise meant here stands in Contracts.
 -- Assumes nothing.
 use mathlib.Core.Path.{_≡_, refl, sym, ap, ap₂, _∙_}
-use mathlib.Core.Bool.{Bool, true, false, not, _||_}
-use mathlib.Core.List.{List, [], _∷_, _++_, map}
+use mathlib.Core.Bool.{false, not, _||_}
+use mathlib.Core.List.{List, [], _∷_, _++_}
 use Prim.Native.Nat.{ℕ, _≤_, _+_, _*_}
-use native.Mathlib.Omega.{arith}
 use lib.IntN.{ℤ, pos, negsuc}
-use lib.Dec.{ltb, leb}
+use lib.Dec.{ltb}
 use lib.ListN.{length, drop, replicate}
-use contract.Lifetimes.{Lfts}
-use denote.Ref.{now}
-use denote.Triple.Clauses.{AtExit}
-use borrow.Fn.Kinds.{Dens, endedOf}
 use borrow.Author.Tests.{le-ltb}
-use Rattle.rules.specs.Lists.{those, some-of, all-of, first-place, best-from, best, alike, written, zeros}
-use Rattle.rules.specs.Streams.{Stream, stream, streams, sample, most, within, beyond, same, side}
+use Rattle.rules.specs.Lists.{those, some-of, best-from, best, written, zeros}
+use Rattle.rules.specs.Streams.{Stream, stream, streams, sample, within, beyond, same, side}
 use Rattle.rules.specs.Chain.{leftmost, left-end, furthest-round, next-corner, corners, upper, lower, upper-numbers, lower-numbers}
 use Rattle.rules.specs.Ring.{closed, ring}
-use Rattle.rules.specs.Bridge.{Bridge, ends, spans}
+use Rattle.rules.specs.Bridge.{Bridge}
 use Rattle.rules.specs.Round.{Said, round}
 use Rattle.rules.specs.Use.{envelope, join, turn-about}
-use Rattle.rules.specs.Refusals.{Answer, refused, done, Test, test, lengths-differ, too-many, part-beyond, scratch-short, output-short, ring-tests, not-envelope, output-after, scratch-after}
-use Rattle.rules.specs.Entries.{Chains, Strongest, kept-list, easts, norths, ring-short, sample-tests, chains-answer, bridge-answer, round-answer, ring-answer, join-answer, turn-answer, strongest-answer, cover-answer}
+use Rattle.rules.specs.Refusals.{Answer, done, Test, too-many, scratch-short, output-short, ring-tests, not-envelope, output-after, scratch-after}
+use Rattle.rules.specs.Entries.{Chains, kept-list, easts, norths, ring-short, sample-tests, chains-answer, bridge-answer, round-answer, ring-answer, join-answer, turn-answer, strongest-answer, cover-answer}
 use Rattle.rules.specs.Soundings.{A-easts, A-norths, A-scratch, A-ring-easts, A-ring-norths, A, A-ring, A-round, tall, flat, three, soundings, slips}
 use Rattle.rings.specs.Rings.{envelope-ring}
 use Rattle.rounds.specs.Steps.{no-step-without-bridge}
@@ -33,38 +28,23 @@ use Rattle.chains.specs.declared.ChainsAnswer.the-variants as chains-said
 use Rattle.bridge.specs.Promise as bridge
 use Rattle.bridge.specs.declared.BridgeAnswer.{BridgeAnswer}
 use Rattle.bridge.specs.declared.BridgeAnswer.the-variants as bridge-said
-use Rattle.round.specs.Promise as rounds
+use Rattle.round.specs.Promise as rounding
 use Rattle.round.specs.declared.RoundAnswer.{RoundAnswer}
 use Rattle.round.specs.declared.RoundAnswer.the-variants as round-said
-use Rattle.closing.specs.Meaning.{Outcome, ringed-as, ringed-injective}
+use Rattle.closing.specs.Meaning.{Outcome, ringed-injective}
 use Rattle.closing.specs.declared.Ringed.{Ringed}
 use Rattle.closing.specs.declared.Ringed.the-variants as ringed
-use Rattle.envelope.specs.Meaning.{TurnPromise, turned-as, strongest-as, covered-as, counted}
+use Rattle.envelope.specs.Meaning.{TurnPromise, strongest-as, covered-as, counted}
 use Rattle.envelope.specs.declared.turn.Turned.{Turned}
 use Rattle.envelope.specs.declared.turn.Turned.the-variants as turn
 use Rattle.envelope.specs.declared.strongest.StrongestSet.{StrongestSet}
 use Rattle.envelope.specs.declared.strongest.StrongestSet.the-variants as strongest
 use Rattle.envelope.specs.declared.cover.Covered.{Covered}
 use Rattle.envelope.specs.declared.cover.Covered.the-variants as cover
-use Rattle.chains.proofs.chains.Kinds as chains-kinds
-use Rattle.chains.proofs.chains.Reads as chains-reads
-use Rattle.bridge.proofs.bridge.Kinds as bridge-kinds
-use Rattle.bridge.proofs.bridge.Reads as bridge-reads
-use Rattle.round.proofs.round.Kinds as round-kinds
-use Rattle.round.proofs.round.Reads as round-reads
-use Rattle.ring.proofs.ring.Kinds as ring-kinds
-use Rattle.ring.proofs.ring.Reads as ring-reads
-use Rattle.join.proofs.join.Kinds as join-kinds
-use Rattle.join.proofs.join.Reads as join-reads
-use Rattle.envelope.proofs.turn.turn_about.Kinds as turn-kinds
-use Rattle.envelope.proofs.turn.turn_about.Reads as turn-reads
-use Rattle.envelope.proofs.strongest.strongest.Kinds as strongest-kinds
-use Rattle.envelope.proofs.strongest.strongest.Reads as strongest-reads
-use Rattle.envelope.proofs.cover.cover.Kinds as cover-kinds
-use Rattle.envelope.proofs.cover.cover.Reads as cover-reads
 use Rattle.demands.specs.Done.{when-done, not-refused}
+use Rattle.demands.specs.Cases.{chains-done, bridge-found, bridge-refused, round-found, round-kept, turned-corners, strongest-greatest, covered-yes}
 
--- ---- any outcome that a promise allows
+-- ---- any outcome that a promise allows: what is lent, with room for the result and 16c + 64 words of scratch, what is answered and what is left
 
 -- of chains over A
 pub record Chains-of-A : Type 0 where
@@ -97,7 +77,7 @@ pub record Round-of-A (list : List ℕ) (a : ℤ) (room : ℕ) : Type 0 where
   pub answer : RoundAnswer
   pub output-left : List ℕ
   pub scratch-left : List ℕ
-  pub promised : rounds.RoundPromise A-easts A-norths list a output scratch answer output-left scratch-left
+  pub promised : rounding.RoundPromise A-easts A-norths list a output scratch answer output-left scratch-left
 
 -- of an entry that answers a ring over two outputs and scratch, with room for so many corners and so much scratch
 pub record Ring-of (answers : List ℤ → List ℤ → List ℕ → Answer (List Stream)) (room words : ℕ) : Type 0 where
@@ -134,7 +114,27 @@ pub record Cover-of (es ns : List ℤ) (x y : ℤ) : Type 0 where
   pub answer : Covered
   pub promised : covered-as answer ≡ cover-answer es ns x y
 
--- ---- THE TABLE
+-- ---- the rings of P9 and P10, as two lists
+
+abbrev pub tall-easts : List ℤ
+tall-easts = pos 2 ∷ pos 2 ∷ []
+
+abbrev pub tall-norths : List ℤ
+tall-norths = pos 5 ∷ pos 1 ∷ []
+
+abbrev pub flat-easts : List ℤ
+flat-easts = pos 0 ∷ pos 4 ∷ []
+
+abbrev pub flat-norths : List ℤ
+flat-norths = pos 0 ∷ pos 0 ∷ []
+
+abbrev pub three-easts : List ℤ
+three-easts = pos 0 ∷ pos 2 ∷ pos 4 ∷ []
+
+abbrev pub three-norths : List ℤ
+three-norths = pos 0 ∷ pos 5 ∷ pos 0 ∷ []
+
+-- ---- THE TABLE (negsuc n is -(n + 1))
 
 pub record Entries-sound : Type 0 where
   pub P1 : (c : Chains-of-A) → (c .answer ≡ chains-said.Done 3 2) × (c .upper-left ≡ 3 ∷ 5 ∷ 2 ∷ drop 3 (c .upper)) × (c .scratch-left ≡ zeros (c .scratch))
@@ -148,12 +148,12 @@ pub record Entries-sound : Type 0 where
       (c .answer ≡ round-said.Found 5 2) × (c .output-left ≡ c .output) × (c .scratch-left ≡ zeros (c .scratch))
   pub P8 : (c : Round-of-A (3 ∷ 0 ∷ 1 ∷ 2 ∷ []) (pos 2) 2) →
       (c .answer ≡ round-said.Kept 2) × (c .output-left ≡ 3 ∷ 2 ∷ drop 2 (c .output)) × (c .scratch-left ≡ zeros (c .scratch))
-  pub P9 : (c : Ring-of (join-answer (pos 2 ∷ pos 2 ∷ []) (pos 5 ∷ pos 1 ∷ []) (pos 0 ∷ pos 4 ∷ []) (pos 0 ∷ pos 0 ∷ [])) 3 128) →
+  pub P9 : (c : Ring-of (join-answer tall-easts tall-norths flat-easts flat-norths) 3 128) →
       (c .answer ≡ ringed.Corners 3)
       × (c .east-left ≡ pos 0 ∷ pos 2 ∷ pos 4 ∷ drop 3 (c .east))
       × (c .north-left ≡ pos 0 ∷ pos 5 ∷ pos 0 ∷ drop 3 (c .north))
       × (c .scratch-left ≡ zeros (c .scratch))
-  pub P10 : (c : Turn-of (pos 0 ∷ pos 2 ∷ pos 4 ∷ []) (pos 0 ∷ pos 5 ∷ pos 0 ∷ []) 3) →
+  pub P10 : (c : Turn-of three-easts three-norths 3) →
       (c .answer ≡ turn.Corners 3)
       × (c .east-left ≡ negsuc 3 ∷ pos 0 ∷ negsuc 1 ∷ drop 3 (c .east))
       × (c .north-left ≡ pos 0 ∷ pos 0 ∷ negsuc 4 ∷ drop 3 (c .north))
@@ -166,11 +166,13 @@ chains-A : (upper lower scratch : List ℕ) → 3 ≤ length upper → 2 ≤ len
     → chains-answer A-easts A-norths upper lower scratch ≡ done (record { upper = 3 ∷ 5 ∷ 2 ∷ []; lower = 0 ∷ 1 ∷ [] })
 unfolding chains-answer A streams within beyond some-of
 chains-A upper lower scratch u l s =
+    let long : (ltb (length upper) (length (upper-numbers A)) || ltb (length lower) (length (lower-numbers A))) ≡ false =
+    rw (soundings .P1, soundings .P2, le-ltb (length upper) 3 u, le-ltb (length lower) 2 l) refl in
     not-refused
     (sample-tests A-easts A-norths scratch
     ++ (output-short (ltb (length upper) (length (upper-numbers A)) || ltb (length lower) (length (lower-numbers A))) ∷ []))
     (record { upper = upper-numbers A; lower = lower-numbers A })
-    (refl, (refl, (refl, (le-ltb (length scratch) 176 s, (no-step-without-bridge A, (rw (soundings .P1, soundings .P2, le-ltb (length upper) 3 u, le-ltb (length lower) 2 l) refl, tt))))))
+    (refl, (refl, (refl, (le-ltb (length scratch) 176 s, (no-step-without-bridge A, (long, tt))))))
     ∙ ap₂ (λ (u l : List ℕ). done (record { upper = u; lower = l })) (soundings .P1) (soundings .P2)
 
 bridge-A : (a : ℤ) {answer : Answer (Bridge ℕ)} → bridge-answer A-easts A-norths a A-scratch ≡ answer → (scratch : List ℕ) → 176 ≤ length scratch
@@ -185,8 +187,10 @@ unfolding A-round round-answer
 round-A list a {said} e output scratch o s =
     let w = when-done (tests (replicate 4 9) A-scratch) it e in
     let n = w .0 .1 .1 .1 in
+    let room = le-ltb (length scratch) (16 * length list + 64) s in
+    let long : ltb (length output) (length (kept-list it)) ≡ false = rw (w .1) (le-ltb (length output) (length (kept-list said)) o) in
     not-refused (tests output scratch) it
-    (refl, (w .0 .1 .0, (w .0 .1 .1 .0, (n .0, (le-ltb (length scratch) (16 * length list + 64) s, (n .1 .1 .0, (rw (w .1) (le-ltb (length output) (length (kept-list said)) o), tt)))))))
+    (refl, (w .0 .1 .0, (w .0 .1 .1 .0, (n .0, (room, (n .1 .1 .0, (long, tt)))))))
     ∙ ap done (w .1)
   where
     it : Said ℕ
@@ -194,14 +198,7 @@ round-A list a {said} e output scratch o s =
 
     tests : List ℕ → List ℕ → List Test
     tests output scratch =
-        lengths-differ A-easts A-norths
-        ∷ test 2 0 (ltb most (length A-easts) || ltb most (length list))
-        ∷ part-beyond (streams A-easts A-norths)
-        ∷ test 7 (first-place (λ i. leb (length A-easts) i) list) (some-of (λ i. leb (length A-easts) i) list)
-        ∷ scratch-short (length list) scratch
-        ∷ test 6 0 (not (spans a (map (sample (streams A-easts A-norths)) list)))
-        ∷ output-short (ltb (length output) (length (kept-list it)))
-        ∷ []
+        rounding.round-tests A-easts A-norths list a (length scratch) ++ (output-short (ltb (length output) (length (kept-list it))) ∷ [])
 
 -- a ring that is this one is not too long for outputs that have room for this one
 fits : {r q : List Stream} (east north : List ℤ) → r ≡ q → length q ≤ length east → length q ≤ length north → ring-short east north r .holds ≡ false
@@ -217,7 +214,7 @@ ring-A east north scratch h k s =
 
 -- the rings of P9 and P10 are envelopes
 rings-of : (ring tall ≡ tall) × (ring flat ≡ flat) × (ring three ≡ three)
-unfolding tall flat three those some-of all-of first-place best-from best alike streams same side leftmost left-end furthest-round next-corner corners upper lower closed ring
+unfolding tall flat three those some-of best-from best same side leftmost left-end furthest-round next-corner corners upper lower closed ring
 rings-of = (refl, refl, refl)
 
 given-ring : (r : List Stream) → ring r ≡ r → not (envelope r) ≡ false
@@ -227,69 +224,32 @@ three-is : join tall flat ≡ three
 three-is = sym (ap₂ join (rings-of .0) (rings-of .1)) ∙ soundings .P9
 
 join-three : (east north : List ℤ) (scratch : List ℕ) → 3 ≤ length east → 3 ≤ length north → 128 ≤ length scratch
-    → join-answer (pos 2 ∷ pos 2 ∷ []) (pos 5 ∷ pos 1 ∷ []) (pos 0 ∷ pos 4 ∷ []) (pos 0 ∷ pos 0 ∷ []) east north scratch ≡ done three
+    → join-answer tall-easts tall-norths flat-easts flat-norths east north scratch ≡ done three
 unfolding join-answer tall flat three streams within beyond some-of
 join-three east north scratch h k s =
+    let tall-ring = given-ring tall (rings-of .0) in
+    let flat-ring = given-ring flat (rings-of .1) in
+    let room = le-ltb (length scratch) 128 s in
     not-refused
-    (ring-tests (pos 2 ∷ pos 2 ∷ []) (pos 5 ∷ pos 1 ∷ [])
-    ++ (not-envelope (pos 2 ∷ pos 2 ∷ []) (pos 5 ∷ pos 1 ∷ []) ∷ [])
-    ++ ring-tests (pos 0 ∷ pos 4 ∷ []) (pos 0 ∷ pos 0 ∷ [])
-    ++ (not-envelope (pos 0 ∷ pos 4 ∷ []) (pos 0 ∷ pos 0 ∷ []) ∷ too-many 4 ∷ scratch-short 4 scratch ∷ ring-short east north (join tall flat) ∷ []))
+    (ring-tests tall-easts tall-norths
+    ++ (not-envelope tall-easts tall-norths ∷ [])
+    ++ ring-tests flat-easts flat-norths
+    ++ (not-envelope flat-easts flat-norths ∷ too-many 4 ∷ scratch-short 4 scratch ∷ ring-short east north (join tall flat) ∷ []))
     (join tall flat)
-    (refl, (refl, (refl, (given-ring tall (rings-of .0), (refl, (refl, (refl, (given-ring flat (rings-of .1), (refl, (le-ltb (length scratch) 128 s, (fits east north three-is h k, tt)))))))))))
+    (refl, (refl, (refl, (tall-ring, (refl, (refl, (refl, (flat-ring, (refl, (room, (fits east north three-is h k, tt)))))))))))
     ∙ ap done three-is
 
 three-turned : (east north : List ℤ) → 3 ≤ length east → 3 ≤ length north
-    → turn-answer (pos 0 ∷ pos 2 ∷ pos 4 ∷ []) (pos 0 ∷ pos 5 ∷ pos 0 ∷ []) east north
+    → turn-answer three-easts three-norths east north
     ≡ done (stream (negsuc 3) (pos 0) ∷ stream (pos 0) (pos 0) ∷ stream (negsuc 1) (negsuc 4) ∷ [])
 unfolding turn-answer three streams within beyond some-of
 three-turned east north h k =
     not-refused
-    (ring-tests (pos 0 ∷ pos 2 ∷ pos 4 ∷ []) (pos 0 ∷ pos 5 ∷ pos 0 ∷ [])
-    ++ (not-envelope (pos 0 ∷ pos 2 ∷ pos 4 ∷ []) (pos 0 ∷ pos 5 ∷ pos 0 ∷ []) ∷ ring-short east north (turn-about three) ∷ []))
+    (ring-tests three-easts three-norths
+    ++ (not-envelope three-easts three-norths ∷ ring-short east north (turn-about three) ∷ []))
     (turn-about three)
     (refl, (refl, (refl, (given-ring three (rings-of .2), (fits east north (soundings .P10) h k, tt)))))
     ∙ ap done (soundings .P10)
-
--- ---- the case of an answer that says this in the rules' words
-
-no-answer : {A : Type 0} {number place : ℕ} {x : A} {R : Type 0} → refused number place ≡ done x → R
-no-answer e = absurd (let z : _≡_ {A = ℕ} 0 1 = cc in omega arith)
-
-chains-done : (r : ChainsAnswer) {c : chains.Counts} → chains.answer-as r ≡ done c → r ≡ chains-said.Done (c .upper) (c .lower)
-chains-done (chains-said.Done u v) e = cc
-chains-done (chains-said.Refused number place) e = no-answer e
-
-bridge-found : (r : BridgeAnswer) {b : Bridge ℕ} → bridge.answer-as r ≡ done b → r ≡ bridge-said.Found (b .left) (b .right)
-bridge-found (bridge-said.Found i j) e = cc
-bridge-found (bridge-said.Refused number place) e = no-answer e
-
-bridge-refused : (r : BridgeAnswer) {number place : ℕ} → bridge.answer-as r ≡ refused number place → r ≡ bridge-said.Refused number place
-bridge-refused (bridge-said.Found i j) e = no-answer (sym e)
-bridge-refused (bridge-said.Refused number place) e = cc
-
-round-found : (r : RoundAnswer) {b : Bridge ℕ} → rounds.answer-as r ≡ done (rounds.bridge-of b) → r ≡ round-said.Found (b .left) (b .right)
-round-found (round-said.Found i j) e = cc
-round-found (round-said.Kept m) e = absurd (let z : _≡_ {A = ℕ} 0 1 = cc in omega arith)
-round-found (round-said.Refused number place) e = no-answer e
-
-round-kept : (r : RoundAnswer) {m : ℕ} → rounds.answer-as r ≡ done (rounds.count-of m) → r ≡ round-said.Kept m
-round-kept (round-said.Found i j) e = absurd (let z : _≡_ {A = ℕ} 0 1 = cc in omega arith)
-round-kept (round-said.Kept m) e = cc
-round-kept (round-said.Refused number place) e = no-answer e
-
-turned-corners : (r : Turned) {m : ℕ} → turned-as r ≡ done m → r ≡ turn.Corners m
-turned-corners (turn.Corners m) e = cc
-turned-corners (turn.Refused number place) e = no-answer e
-
-strongest-greatest : (r : StrongestSet) {s : Strongest} → strongest-as r ≡ done s → r ≡ strongest.Greatest (s .set) (s .place)
-strongest-greatest (strongest.Greatest z i) e = cc
-strongest-greatest (strongest.Refused number place) e = no-answer e
-
-covered-yes : (r : Covered) → covered-as r ≡ done true → r ≡ cover.Yes
-covered-yes cover.Yes e = refl
-covered-yes cover.No e = absurd (let z : _≡_ {A = ℕ} 0 1 = cc in omega arith)
-covered-yes (cover.Refused number place) e = no-answer e
 
 -- ---- the proof
 
@@ -313,12 +273,12 @@ bridge-of {a} c e =
     (c .promised .answer ∙ h, c .promised .scratch-is ∙ ap (λ (t : Answer (Bridge ℕ)). scratch-after t (c .scratch)) h)
 
 round-of : {list : List ℕ} {a : ℤ} {room : ℕ} (c : Round-of-A list a room) {said : Said ℕ} → A-round list a ≡ done said → length (kept-list said) ≡ room →
-    (rounds.answer-as (c .answer) ≡ done (rounds.told said))
+    (rounding.answer-as (c .answer) ≡ done (rounding.told said))
     × (c .output-left ≡ written (kept-list said) (c .output))
     × (c .scratch-left ≡ zeros (c .scratch))
 round-of {list} {a} c {said} e h =
     let r = round-A list a e (c .output) (c .scratch) (rw h (c .output-room)) (c .scratch-room) in (
-      c .promised .answer ∙ ap rounds.telling r,
+      c .promised .answer ∙ ap rounding.telling r,
       c .promised .output-is ∙ ap (λ (t : Answer (Said ℕ)). output-after kept-list t (c .output)) r,
       c .promised .scratch-is ∙ ap (λ (t : Answer (Said ℕ)). scratch-after t (c .scratch)) r,
     )
@@ -366,47 +326,3 @@ pub A-ring-written : (c : Ring-of (ring-answer A-easts A-norths) 5 176) →
     × (c .scratch-left ≡ zeros (c .scratch))
 unfolding A-ring
 A-ring-written c = ring-of c (ring-A (c .east) (c .north) (c .scratch) (c .east-room) (c .north-room) (c .scratch-room))
-
--- ---- the contracts of the entries are these promises
-
-pub record Contracts : Type 1 where
-  pub of-chains : (κs : Lfts 5) (a : Dens κs chains-kinds.ps) (r : ChainsAnswer) (s : AtExit (endedOf 5 chains-kinds.ps chains-kinds.r) κs) →
-      chains-reads.Post κs a r s
-      ≡ chains.ChainsPromise (now (a .0)) (now (a .1 .0)) (now (a .1 .1 .0)) (now (a .1 .1 .1 .0)) (now (a .1 .1 .1 .1 .0)) r
-      (now (s .1 .1 .0)) (now (s .1 .1 .1 .0)) (now (s .1 .1 .1 .1 .0))
-  pub of-bridge : (κs : Lfts 3) (a : Dens κs bridge-kinds.ps) (r : BridgeAnswer) (s : AtExit (endedOf 3 bridge-kinds.ps bridge-kinds.r) κs) →
-      bridge-reads.Post κs a r s ≡ bridge.BridgePromise (now (a .0)) (now (a .1 .0)) (a .1 .1 .0) (now (a .1 .1 .1 .0)) r (now (s .1 .1 .1 .0))
-  pub of-round : (κs : Lfts 5) (a : Dens κs round-kinds.ps) (r : RoundAnswer) (s : AtExit (endedOf 5 round-kinds.ps round-kinds.r) κs) →
-      round-reads.Post κs a r s
-      ≡ rounds.RoundPromise (now (a .0)) (now (a .1 .0)) (now (a .1 .1 .0)) (a .1 .1 .1 .0) (now (a .1 .1 .1 .1 .0)) (now (a .1 .1 .1 .1 .1 .0)) r
-      (now (s .1 .1 .1 .1 .0)) (now (s .1 .1 .1 .1 .1 .0))
-  pub of-ring : (κs : Lfts 5) (a : Dens κs ring-kinds.ps) (r : Ringed) (s : AtExit (endedOf 5 ring-kinds.ps ring-kinds.r) κs) →
-      ring-reads.Post κs a r s
-      ≡ Outcome (ring-answer (now (a .0)) (now (a .1 .0)) (now (a .1 .1 .0)) (now (a .1 .1 .1 .0)) (now (a .1 .1 .1 .1 .0))) r
-      (now (a .1 .1 .0)) (now (s .1 .1 .0)) (now (a .1 .1 .1 .0)) (now (s .1 .1 .1 .0)) (now (a .1 .1 .1 .1 .0)) (now (s .1 .1 .1 .1 .0))
-  pub of-join : (κs : Lfts 7) (a : Dens κs join-kinds.ps) (r : Ringed) (s : AtExit (endedOf 7 join-kinds.ps join-kinds.r) κs) →
-      join-reads.Post κs a r s
-      ≡ Outcome
-      (join-answer (now (a .0)) (now (a .1 .0)) (now (a .1 .1 .0)) (now (a .1 .1 .1 .0)) (now (a .1 .1 .1 .1 .0)) (now (a .1 .1 .1 .1 .1 .0))
-      (now (a .1 .1 .1 .1 .1 .1 .0))) r
-      (now (a .1 .1 .1 .1 .0)) (now (s .1 .1 .1 .1 .0)) (now (a .1 .1 .1 .1 .1 .0)) (now (s .1 .1 .1 .1 .1 .0))
-      (now (a .1 .1 .1 .1 .1 .1 .0)) (now (s .1 .1 .1 .1 .1 .1 .0))
-  pub of-turn-about : (κs : Lfts 4) (a : Dens κs turn-kinds.ps) (r : Turned) (s : AtExit (endedOf 4 turn-kinds.ps turn-kinds.r) κs) →
-      turn-reads.Post κs a r s
-      ≡ TurnPromise (now (a .0)) (now (a .1 .0)) (now (a .1 .1 .0)) (now (a .1 .1 .1 .0)) r (now (s .1 .1 .0)) (now (s .1 .1 .1 .0))
-  pub of-strongest : (κs : Lfts 2) (a : Dens κs strongest-kinds.ps) (r : StrongestSet) (s : AtExit (endedOf 2 strongest-kinds.ps strongest-kinds.r) κs) →
-      strongest-reads.Post κs a r s ≡ (strongest-as r ≡ strongest-answer (now (a .0)) (now (a .1 .0)) (a .1 .1 .0) (a .1 .1 .1 .0))
-  pub of-cover : (κs : Lfts 2) (a : Dens κs cover-kinds.ps) (r : Covered) (s : AtExit (endedOf 2 cover-kinds.ps cover-kinds.r) κs) →
-      cover-reads.Post κs a r s ≡ (covered-as r ≡ cover-answer (now (a .0)) (now (a .1 .0)) (a .1 .1 .0) (a .1 .1 .1 .0))
-
-pub contracts : Contracts
-contracts = record {
-  of-chains = λ κs a r s. refl;
-  of-bridge = λ κs a r s. refl;
-  of-round = λ κs a r s. refl;
-  of-ring = λ κs a r s. refl;
-  of-join = λ κs a r s. refl;
-  of-turn-about = λ κs a r s. refl;
-  of-strongest = λ κs a r s. refl;
-  of-cover = λ κs a r s. refl;
-}
