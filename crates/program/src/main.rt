@@ -1,0 +1,24 @@
+// The program: lines of samples from standard input, their ring or a refusal to standard output. It reads, calls and writes.
+
+mod answer;
+mod input;
+
+use answer::answer;
+use input::Input;
+use input::read;
+
+fn main() {
+    let mut text = [0u8; 9217];
+    match read(&mut text) {
+        Input::Failed => {
+            io::write_all(2, b"envelope: standard input cannot be read\n");
+        }
+        Input::Bytes(count) => {
+            let mut out = [0u8; 18442];
+            let printed = answer(&text[..count], &mut out);
+            if !io::write_all(1, &out[..printed]) {
+                io::write_all(2, b"envelope: standard output cannot be written\n");
+            }
+        }
+    }
+}
