@@ -7,12 +7,23 @@ ghost use Rattle.rules.specs.Lists.{written};
 ghost use Rattle.rules.specs.Streams.{streams};
 ghost use Rattle.rules.specs.Refusals.{done};
 ghost use Rattle.rules.specs.Program.{ring-of-text, printed, program};
+ghost use Rattle.program.specs.Prints.{Answers};
 use closing::Ringed;
 use ring::ring;
 use text::printing::print_refusal;
 use text::printing::print_ring;
 use text::reading::Read;
 use text::reading::samples;
+
+// What is printed for an input of any length, whose first count bytes stand in text: all of its bytes, where they leave room. A text of 9,217 bytes is long
+// enough: no byte behind it changes anything.
+pub fn answer_input(text: &[u8], count: usize, out: &mut [u8; 18442]) -> usize
+    requires { ⌜ 9217 ≤ length (now text) ⌝ }
+    requires { ⌜ count ≤ length (now text) ⌝ }
+    ensures { λ r. ⌜ Answers (now (text .entry)) count r (now (out .entry)) (now (out .exit)) ⌝ }
+{
+    answer(&text[..count], out)
+}
 
 // What is printed for a text of any bytes, at the front of out: how many bytes that are.
 pub fn answer(text: &[u8], out: &mut [u8; 18442]) -> usize

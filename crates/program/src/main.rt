@@ -3,7 +3,7 @@
 mod answer;
 mod input;
 
-use answer::answer;
+use answer::answer_input;
 use input::Input;
 use input::read;
 
@@ -15,7 +15,7 @@ fn main() {
         }
         Input::Bytes(count) => {
             let mut out = [0u8; 18442];
-            let printed = answer(&text[..count], &mut out);
+            let printed = answer_input(&text, count, &mut out);
             if !io::write_all(1, &out[..printed]) {
                 io::write_all(2, b"envelope: standard output cannot be written\n");
             }
