@@ -33,7 +33,7 @@ few-corners : (es ns : List ℤ) → length es ≡ length ns → length es ≤ 5
 few-corners es ns even few = omega (arith, ring-few (streams es ns), streams-length es ns even)
 
 module _ (es ns east north : List ℤ) (scratch : List ℕ) (even : length es ≡ length ns) (few : length es ≤ 512) where
-  ring-answers : length east ≡ 1024 → length north ≡ 1024 → length scratch ≡ 8256 →
+  ring-answers : 1024 ≤ length east → 1024 ≤ length north → 8256 ≤ length scratch →
       ring-answer es ns east north scratch ≡ ring-of-text (done (streams es ns))
   unfolding ring-answer
   ring-answers e n s =
@@ -58,7 +58,7 @@ done-ring xs all = go (some-of beyond xs)
 -- what comes of the entry
 module _ (es ns : List ℤ) {east east' north north' : List ℤ} {scratch scratch' : List ℕ} {r : Ringed}
     (o : Outcome (ring-answer es ns east north scratch) r east east' north north' scratch scratch') (even : length es ≡ length ns)
-    (few : length es ≤ 512) (e : length east ≡ 1024) (n : length north ≡ 1024) (s : length scratch ≡ 8256) where
+    (few : length es ≤ 512) (e : 1024 ≤ length east) (n : 1024 ≤ length north) (s : 8256 ≤ length scratch) where
   answers : ring-answer es ns east north scratch ≡ ring-of-text (done (streams es ns))
   answers = ring-answers es ns east north scratch even few e n s
 
