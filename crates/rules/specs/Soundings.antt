@@ -135,12 +135,14 @@ unfoldable pub A-text : List ℕ
 A-text =
     48 ∷ 32 ∷ 48 ∷ 10 ∷ 52 ∷ 32 ∷ 48 ∷ 10 ∷ 52 ∷ 32 ∷ 51 ∷ 10 ∷ 48 ∷ 32 ∷ 51 ∷ 10 ∷ 50 ∷ 32 ∷ 49 ∷ 10 ∷ 50 ∷ 32 ∷ 53 ∷ 10 ∷ 52 ∷ 32 ∷ 48 ∷ 10 ∷ []
 
--- "ring 5", then the five corners; "ring 0"; "refused 15 3" for a third line that is bad
+-- "ring 5", then the five corners; "ring 0"; "refused 15 3" for a third line that is bad; "refused 15 2" for a second line that is bad, after a line with
+-- a part beyond the limit: all text is read before 3 is tested
 pub record Texts : Type 0 where
   pub whole : program A-text ≡ 114 ∷ 105 ∷ 110 ∷ 103 ∷ 32 ∷ 53 ∷ 10 ∷ 48 ∷ 32 ∷ 51 ∷ 10 ∷ 50 ∷ 32 ∷ 53 ∷ 10 ∷ 52 ∷ 32 ∷ 51 ∷ 10 ∷ 52 ∷ 32 ∷ 48 ∷ 10 ∷ 48 ∷ 32 ∷ 48 ∷ 10 ∷ []
   pub empty : program [] ≡ 114 ∷ 105 ∷ 110 ∷ 103 ∷ 32 ∷ 48 ∷ 10 ∷ []
   pub third : program (49 ∷ 32 ∷ 49 ∷ 10 ∷ 50 ∷ 32 ∷ 50 ∷ 10 ∷ 45 ∷ 48 ∷ 32 ∷ 50 ∷ 10 ∷ []) ≡ 114 ∷ 101 ∷ 102 ∷ 117 ∷ 115 ∷ 101 ∷ 100 ∷ 32 ∷ 49 ∷ 53 ∷ 32 ∷ 51 ∷ 10 ∷ []
+  pub text-first : program (57 ∷ 57 ∷ 57 ∷ 57 ∷ 57 ∷ 57 ∷ 57 ∷ 32 ∷ 48 ∷ 10 ∷ 45 ∷ 48 ∷ 32 ∷ 48 ∷ 10 ∷ []) ≡ 114 ∷ 101 ∷ 102 ∷ 117 ∷ 115 ∷ 101 ∷ 100 ∷ 32 ∷ 49 ∷ 53 ∷ 32 ∷ 50 ∷ 10 ∷ []
 
 pub texts : Texts
 unfolding A-text those some-of all-of first-place best-from best within beyond same side leftmost left-end furthest-round next-corner corners upper lower closed ring decimal unsigned number cut-at line text samples digits printed-natural printed-whole printed-corners printed program
-texts = record { whole = refl; empty = refl; third = refl }
+texts = record { whole = refl; empty = refl; third = refl; text-first = refl }

@@ -8,3 +8,4 @@ pub mod Naturals
 pub mod Corners
 pub mod Enough
 pub mod Room
+pub mod Again

@@ -46,14 +46,9 @@ natural-most : (n : ℕ) → length (printed-natural n) ≤ 20
 unfolding printed-natural
 natural-most n = omega (arith, digits-most 20 n [])
 
-natural-few : (m n : ℕ) → n < 10 ^ suc m → length (printed-natural n) ≤ suc m
+pub natural-few : (m n : ℕ) → n < 10 ^ suc m → length (printed-natural n) ≤ suc m
 unfolding printed-natural
 natural-few m n h = omega (arith, digits-few 20 m n [] h)
-
-whole-most : (z : ℤ) → length (printed-whole z) ≤ 21
-unfolding printed-whole
-whole-most (pos n) = omega (arith, natural-most n)
-whole-most (negsuc n) = omega (arith, natural-most (suc n))
 
 whole-few : (z : ℤ) → within z ≡ true → length (printed-whole z) ≤ 8
 unfolding printed-whole within
@@ -85,34 +80,27 @@ module _ (test : Stream → Bool) (k : ℕ) (short : (p : Stream) → test p ≡
             suc-mul (length r) k,
           )
 
-corner-most : (p : Stream) → length (printed-corner (p .east) (p .north)) ≤ 44
-corner-most p = omega (arith, corner-length (p .east) (p .north), whole-most (p .east), whole-most (p .north))
+-- both parts of a stream that is not beyond the limit are within it
+pub near-parts : (p : Stream) → beyond p ≡ false → (within (p .east) ≡ true) × (within (p .north) ≡ true)
+unfolding beyond
+near-parts p h = go (within (p .east)) (within (p .north)) h
+  where
+    go : (s t : Bool) → not (s && t) ≡ false → (s ≡ true) × (t ≡ true)
+    go true true h = (refl, refl)
+    go true false h = absurd (true≢false h)
+    go false t h = absurd (true≢false h)
 
 corner-few : (p : Stream) → beyond p ≡ false → length (printed-corner (p .east) (p .north)) ≤ 18
-unfolding beyond
-corner-few p h = go (within (p .east)) refl (within (p .north)) refl h
-  where
-    go : (s : Bool) → within (p .east) ≡ s → (t : Bool) → within (p .north) ≡ t → not (s && t) ≡ false →
-        length (printed-corner (p .east) (p .north)) ≤ 18
-    go true e true f h = omega (arith, corner-length (p .east) (p .north), whole-few (p .east) e, whole-few (p .north) f)
-    go true e false f h = absurd (true≢false h)
-    go false e t f h = absurd (true≢false h)
-
-nothing-passes : (r : List Stream) → some-of (λ p. false) r ≡ false
-unfolding some-of
-nothing-passes [] = refl
-nothing-passes (p ∷ r) = nothing-passes r
+corner-few p h =
+    let near = near-parts p h in
+    omega (arith, corner-length (p .east) (p .north), whole-few (p .east) (near .0), whole-few (p .north) (near .1))
 
 -- ---- the answer
 
-pub ring-room : (r : List Stream) → length r ≤ 512 → length (printed (done r)) ≤ 22554
-ring-room r h =
-    omega (arith, ring-length r, natural-most (length r), lines-short (λ p. false) 44 (λ p e. corner-most p) r (nothing-passes r))
-
--- with every part within the limit
-pub ring-room-within : (r : List Stream) → length r ≤ 512 → some-of beyond r ≡ false → length (printed (done r)) ≤ 9225
-ring-room-within r h g =
-    omega (arith, ring-length r, natural-few 2 (length r) (omega arith), lines-short beyond 18 corner-few r g)
+-- a ring of parts within the limit: at most so many corners as two chains of 512 have
+pub ring-room : (r : List Stream) → length r ≤ 1024 → some-of beyond r ≡ false → length (printed (done r)) ≤ 18442
+ring-room r h g =
+    omega (arith, ring-length r, natural-few 3 (length r) (omega arith), lines-short beyond 18 corner-few r g)
 
 pub refusal-room : (k p : ℕ) → length (printed (refused k p)) ≤ 50
 refusal-room k p = omega (arith, refusal-length k p, natural-most k, natural-most p)
