@@ -1,4 +1,4 @@
-//! The rules once more, written from document 01 alone and by other methods than the library's: every number is picked by sorting, every chain is built by a
+//! The rules once more, written from the rules alone and by other methods than the library's: every number is picked by sorting, every chain is built by a
 //! sweep over sorted positions, every property is tested as it is defined.
 //!
 //! Each entry here takes what the library's entry is lent and leaves it as the library must: so a refusal's number and place, the answer, and the final
