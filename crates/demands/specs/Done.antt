@@ -10,8 +10,7 @@ use lib.Seq.{take-at}
 use Rattle.rules.specs.Streams.{Stream, streams}
 use Rattle.rules.specs.Lists.{written}
 use Rattle.rules.specs.Refusals.{Answer, refused, done, Test, unless}
-use Rattle.rules.specs.Entries.{easts, norths}
-use Rattle.envelope.specs.Meaning.{counted}
+use Rattle.rules.specs.Entries.{easts, norths, counted}
 
 -- none of the tests holds
 abbrev pub NoneHolds : List Test → Type 0

@@ -20,7 +20,7 @@ use Rattle.rules.specs.Refusals.{Answer, refused, done, output-after, ring-test
 use Rattle.rules.specs.Entries.{easts, norths, ring-short, turn-answer}
 use Rattle.rings.specs.Turning.{turn-twice}
 use Rattle.ringside.specs.Samples.{streams-length, streams-easts, streams-norths}
-use Rattle.envelope.specs.Meaning.{turned-as, counted}
+use Rattle.envelope.specs.Meaning.{turned-as}
 use Rattle.envelope.specs.declared.turn.Turned.{Turned}
 use Rattle.envelope.specs.declared.turn.Turned.the-variants as turn
 use Rattle.envelope.proofs.turn.turn_about.Kinds as turn-kinds

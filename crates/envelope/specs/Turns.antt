@@ -16,7 +16,7 @@ use Rattle.rules.specs.Chain.{leftmost}
 use Rattle.rules.specs.Ring.{ring}
 use Rattle.rules.specs.Use.{envelope, turn-about}
 use Rattle.rules.specs.Refusals.{Answer, refused, done, output-after}
-use Rattle.rules.specs.Entries.{easts, norths, turn-answer}
+use Rattle.rules.specs.Entries.{easts, norths, counted, turn-answer}
 use Rattle.outline.specs.Lists.{two-keys-no, is-first-place, equal-same, no-same}
 use Rattle.rings.specs.Rings.{envelope-ring}
 use Rattle.rings.specs.Cycle.{Entered, enter, from-place, turn-from}
@@ -24,7 +24,7 @@ use Rattle.rings.specs.Lines.{no-samples}
 use Rattle.ringside.specs.Meaning.{Passed}
 use Rattle.ringside.specs.Samples.{streams-length, streams-sample, streams-easts, streams-norths, sample-in}
 use Rattle.envelope.specs.declared.turn.Turned.{Turned}
-use Rattle.envelope.specs.Meaning.{turned-as, counted, TurnPromise}
+use Rattle.envelope.specs.Meaning.{turned-as, TurnPromise}
 use Rattle.envelope.specs.Firsts.{First, first-apart, first-unbeaten, nearer-entry, entry-orders}
 use Rattle.envelope.specs.Writes.{map-drop, map-take}
 
