@@ -23,7 +23,7 @@ use Rattle.outline.specs.Chains.{ring-members}
 use Rattle.rings.specs.Rings.{envelope-ring}
 use Rattle.rings.specs.Joins.{join-rings}
 use Rattle.rings.specs.Turning.{turn-ring}
-use Rattle.ringside.specs.Samples.{streams-length, streams-easts, streams-norths}
+use Rattle.samples.specs.Samples.{streams-length, streams-easts, streams-norths}
 use Rattle.envelope.specs.declared.turn.Turned.the-variants as turn
 use Rattle.envelope.specs.declared.cover.Covered.the-variants as said
 use Rattle.closing.specs.Meaning.{ringed-as}

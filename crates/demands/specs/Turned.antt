@@ -19,7 +19,7 @@ use Rattle.rules.specs.Use.{envelope, turn-about}
 use Rattle.rules.specs.Refusals.{Answer, refused, done, output-after, ring-tests, not-envelope}
 use Rattle.rules.specs.Entries.{easts, norths, ring-short, turn-answer}
 use Rattle.rings.specs.Turning.{turn-twice}
-use Rattle.ringside.specs.Samples.{streams-length, streams-easts, streams-norths}
+use Rattle.samples.specs.Samples.{streams-length, streams-easts, streams-norths}
 use Rattle.envelope.specs.Meaning.{turned-as}
 use Rattle.envelope.specs.declared.turn.Turned.{Turned}
 use Rattle.envelope.specs.declared.turn.Turned.the-variants as turn

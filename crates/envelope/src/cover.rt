@@ -6,15 +6,16 @@ ghost use Prim.Native.Nat.{_<_};
 ghost use lib.ListN.{length};
 ghost use Rattle.rules.specs.Streams.{streams};
 ghost use Rattle.rules.specs.Entries.{cover-answer};
-ghost use Rattle.ringside.specs.Meaning.{stream-of, Near, Passed};
+ghost use Rattle.samples.specs.Positions.{Near, Sampled};
+ghost use Rattle.ringside.specs.Meaning.{stream-of};
 ghost use Rattle.envelope.specs.Meaning.{covered-as};
 ghost use Rattle.envelope.specs.Walks.{inside-from};
-use ringside::MOST;
 use ringside::Stream;
 use ringside::at;
 use ringside::beyond;
-use ringside::first_beyond;
 use ringside::strictly_right;
+use samples::tests::MOST;
+use samples::tests::first_beyond;
 
 // Yes or no, or a refusal's number and place.
 pub enum Covered {
@@ -25,7 +26,7 @@ pub enum Covered {
 
 // The stream lies strictly inside every edge, from place 0 on and back.
 fn inside(east: &[i32], north: &[i32], s: Stream) -> bool
-    requires { ⌜ Passed (now east) (now north) × Near (stream-of s) × (0 < length (now east)) ⌝ }
+    requires { ⌜ Sampled (now east) (now north) × Near (stream-of s) × (0 < length (now east)) ⌝ }
     ensures { λ r. ⌜ r ≡ inside-from (streams (now (east .entry)) (now (north .entry))) (stream-of s) 1 ⌝ }
 {
     let n = east.len();

@@ -8,15 +8,16 @@ ghost use lib.IntN.{pos};
 ghost use lib.ListN.{length};
 ghost use Rattle.rules.specs.Streams.{streams, eqZ};
 ghost use Rattle.rules.specs.Entries.{strongest-answer};
-ghost use Rattle.ringside.specs.Meaning.{stream-of, Near, Passed};
+ghost use Rattle.samples.specs.Positions.{Near, Sampled};
+ghost use Rattle.ringside.specs.Meaning.{stream-of};
 ghost use Rattle.envelope.specs.Meaning.{strongest-as};
 ghost use Rattle.envelope.specs.Firsts.{First, stronger};
-use ringside::MOST;
 use ringside::Stream;
 use ringside::at;
 use ringside::beyond;
-use ringside::first_beyond;
 use ringside::set_on;
+use samples::tests::MOST;
+use samples::tests::first_beyond;
 
 // The greatest set and the first place that has it, or a refusal's number and place.
 pub enum StrongestSet {
@@ -26,7 +27,7 @@ pub enum StrongestSet {
 
 // The first place that no corner beats.
 fn strongest_place(east: &[i32], north: &[i32], course: Stream) -> usize
-    requires { ⌜ Passed (now east) (now north) × Near (stream-of course) × (0 < length (now east)) ⌝ }
+    requires { ⌜ Sampled (now east) (now north) × Near (stream-of course) × (0 < length (now east)) ⌝ }
     ensures { λ r. ⌜ First (stronger (course .east) (course .north)) (streams (now (east .entry)) (now (north .entry)))
         (length (now (east .entry))) r ⌝ }
 {

@@ -6,7 +6,8 @@ ghost use lib.ListN.{length};
 ghost use Rattle.rules.specs.Streams.{streams};
 ghost use Rattle.rules.specs.Use.{envelope};
 ghost use Rattle.neighbours.specs.Test.{turns, closes};
-ghost use Rattle.ringside.specs.Meaning.{stream-of, Near, Passed};
+ghost use Rattle.samples.specs.Positions.{Near, Sampled};
+ghost use Rattle.ringside.specs.Meaning.{stream-of};
 ghost use Rattle.envelope.specs.Walks.{round-from};
 use ringside::Stream;
 use ringside::at;
@@ -40,7 +41,7 @@ fn closes(a: Stream, b: Stream, first: Stream) -> bool
 
 // From place 0 to place 1, over all corners and back to place 0.
 fn goes_round(east: &[i32], north: &[i32]) -> bool
-    requires { ⌜ Passed (now east) (now north) × (2 ≤ length (now east)) ⌝ }
+    requires { ⌜ Sampled (now east) (now north) × (2 ≤ length (now east)) ⌝ }
     ensures { λ r. ⌜ r ≡ round-from (streams (now (east .entry)) (now (north .entry))) 2 ⌝ }
 {
     let n = east.len();
@@ -64,7 +65,7 @@ fn goes_round(east: &[i32], north: &[i32]) -> bool
 
 // The ring equals the ring of its own positions.
 pub fn is_envelope(east: &[i32], north: &[i32]) -> bool
-    requires { ⌜ Passed (now east) (now north) ⌝ }
+    requires { ⌜ Sampled (now east) (now north) ⌝ }
     ensures { λ r. ⌜ r ≡ envelope (streams (now (east .entry)) (now (north .entry))) ⌝ }
 {
     let n = east.len();

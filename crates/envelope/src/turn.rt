@@ -13,10 +13,10 @@ ghost use Rattle.rules.specs.Streams.{streams};
 ghost use Rattle.rules.specs.Use.{envelope};
 ghost use Rattle.envelope.specs.Meaning.{TurnPromise};
 ghost use Rattle.envelope.specs.Turns.{Entry, AllNear, turned-from};
-use ringside::MOST;
 use ringside::at;
-use ringside::first_beyond;
 use ringside::leftmost;
+use samples::tests::MOST;
+use samples::tests::first_beyond;
 
 // How many corners were written, or a refusal's number and place.
 pub enum Turned {

@@ -17,8 +17,8 @@ use Rattle.rules.specs.Use.{envelope, join}
 use Rattle.rules.specs.Refusals.{Answer, refused, done, Test, unless, lengths-differ, part-beyond, ring-tests, not-envelope, too-many, scratch-short}
 use Rattle.rules.specs.Entries.{ring-short, join-answer}
 use Rattle.outline.specs.Lists.{both-yes}
-use Rattle.ringside.specs.Meaning.{Near}
-use Rattle.ringside.specs.Samples.{sample-near, streams-length}
+use Rattle.samples.specs.Positions.{Near}
+use Rattle.samples.specs.Samples.{sample-near, streams-length}
 use Rattle.stack.specs.Hills.{Hill, hill-placed, envelope-hill}
 use Rattle.walk.specs.Both.{Rings, both, count}
 use Rattle.closing.specs.Meaning.{unless-short}

@@ -12,8 +12,8 @@ ghost use Rattle.join.specs.Meaning.{tested-as, ring-verdict};
 use closing::Ringed;
 use closing::close;
 use envelope::test::is_envelope;
-use ringside::MOST;
-use ringside::first_beyond;
+use samples::tests::MOST;
+use samples::tests::first_beyond;
 use walk::chain::chain;
 
 // What the tests of one ring say: nothing against it, or a refusal's number and place.

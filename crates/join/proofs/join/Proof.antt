@@ -9,7 +9,7 @@ use denote.Ref.{now}
 use Rattle.rules.specs.Streams.{Stream, most}
 use Rattle.rules.specs.Refusals.{Answer, done, too-many, scratch-short}
 use Rattle.rules.specs.Entries.{ring-short, join-answer}
-use Rattle.ringside.specs.Tests.{refuses, passes}
+use Rattle.samples.specs.Tests.{refuses, passes}
 use Rattle.walk.specs.Both.{count}
 use Rattle.closing.specs.Meaning.{unless-short, Outcome, outcome-refused}
 use Rattle.join.specs.Meaning.{tested-as, ring-verdict}

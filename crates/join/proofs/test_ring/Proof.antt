@@ -6,7 +6,8 @@ use mathlib.Core.List.{[], _∷_}
 use borrow.Author.Needs.{needs}
 use denote.Ref.{now}
 use Rattle.rules.specs.Refusals.{not-envelope}
-use Rattle.ringside.specs.Tests.{refuses, passes, passed, refused-1, refused-2, refused-3, none-refused}
+use Rattle.samples.specs.Tests.{refuses, passes}
+use Rattle.ringside.specs.Tests.{passed, refused-1, refused-2, refused-3, none-refused}
 use Rattle.join.proofs.test_ring.Statement.{statement}
 use Rattle.join.proofs.test_ring.Tie as tie
 

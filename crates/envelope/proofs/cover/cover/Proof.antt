@@ -12,9 +12,10 @@ use Rattle.rules.specs.Streams.{Stream, stream, streams, beyond}
 use Rattle.rules.specs.Use.{covers}
 use Rattle.rules.specs.Refusals.{done, Test, unless, single-beyond, not-envelope}
 use Rattle.rules.specs.Entries.{cover-answer}
-use Rattle.ringside.specs.Meaning.{Passed}
-use Rattle.ringside.specs.Samples.{streams-length, not-beyond-near}
-use Rattle.ringside.specs.Tests.{refuses, passes, passed, refused-1, refused-2, refused-3, none-refused}
+use Rattle.samples.specs.Positions.{Sampled}
+use Rattle.samples.specs.Samples.{streams-length, both-within}
+use Rattle.samples.specs.Tests.{refuses, passes}
+use Rattle.ringside.specs.Tests.{passed, refused-1, refused-2, refused-3, none-refused}
 use Rattle.ringside.specs.Words.{read}
 use Rattle.envelope.specs.Meaning.{covered-as}
 use Rattle.envelope.specs.Walks.{inside-from, few-cover, enough-cover}
@@ -63,7 +64,7 @@ returns-3 c =
 abbrev start : tie.Else3 → tie.Start
 start c = c .before .before .before .before
 
-ring-passed : (c : tie.Else3) → Passed (es (start c)) (ns (start c))
+ring-passed : (c : tie.Else3) → Sampled (es (start c)) (ns (start c))
 ring-passed c =
     passed (es (start c)) (ns (start c)) (c .before .before .before .if1 .left) (c .before .first-beyond .ensures) (omega arith)
 
@@ -133,7 +134,7 @@ inside-requires : tie.Need-inside-requires
 inside-requires c κs =
     let a = start (at-ring (c .before)) in
     let not-beyond = sym (c .before .before .before .before .beyond .ensures) ∙ c .before .before .before .if4 .left in
-    (ring-passed (at-ring (c .before)), not-beyond-near (stream (read (a .args .x)) (read (a .args .y))) not-beyond, omega arith)
+    (ring-passed (at-ring (c .before)), both-within (stream (read (a .args .x)) (read (a .args .y))) not-beyond, omega arith)
 
 -- the answer is what the walk found
 found : (c : tie.After-inside) →

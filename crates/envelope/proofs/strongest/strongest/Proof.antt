@@ -16,9 +16,10 @@ use Rattle.rules.specs.Streams.{stream, streams, beyond, eqZ}
 use Rattle.rules.specs.Use.{set-on}
 use Rattle.rules.specs.Refusals.{done, Test, test, unless, single-beyond, not-envelope}
 use Rattle.rules.specs.Entries.{Strongest, strongest-of, strongest-answer}
-use Rattle.ringside.specs.Meaning.{Near, Passed}
-use Rattle.ringside.specs.Samples.{streams-length, not-beyond-near, read-near}
-use Rattle.ringside.specs.Tests.{refuses, passes, passed, refused-1, refused-2, refused-3, none-refused}
+use Rattle.samples.specs.Positions.{Near, Sampled}
+use Rattle.samples.specs.Samples.{streams-length, both-within, read-near}
+use Rattle.samples.specs.Tests.{refuses, passes}
+use Rattle.ringside.specs.Tests.{passed, refused-1, refused-2, refused-3, none-refused}
 use Rattle.ringside.specs.Words.{read}
 use Rattle.envelope.specs.Meaning.{strongest-as}
 use Rattle.envelope.specs.Firsts.{First, stronger}
@@ -80,7 +81,7 @@ returns-3 c =
 abbrev start : tie.Else3 → tie.Start
 start c = c .before .before .before .before
 
-ring-passed : (c : tie.Else3) → Passed (es (start c)) (ns (start c))
+ring-passed : (c : tie.Else3) → Sampled (es (start c)) (ns (start c))
 ring-passed c =
     passed (es (start c)) (ns (start c)) (c .before .before .before .if1 .left) (c .before .first-beyond .ensures) (omega arith)
 
@@ -123,7 +124,7 @@ left-4 c =
     left (c .before .before) ∙ passes (single-beyond (stream (x a) (y a))) (tests-9 a) (says a) (sym (given (c .before)) ∙ c .if4 .left)
 
 course-near : (c : tie.Else4) → Near (stream (read (x (start-4 c))) (read (y (start-4 c))))
-course-near c = not-beyond-near (stream (read (x (start-4 c))) (read (y (start-4 c)))) (sym (c .before .beyond .ensures) ∙ c .if4 .left)
+course-near c = both-within (stream (read (x (start-4 c))) (read (y (start-4 c)))) (sym (c .before .beyond .ensures) ∙ c .if4 .left)
 
 returns-5 : tie.Need-returns-5
 returns-5 c =
@@ -179,7 +180,7 @@ start-7 c = start-6 (c .before .before)
 left-7 : (c : tie.Else7) → Left (start-7 c) []
 left-7 c = left-6 (c .before .before) ∙ passes (no-course (start-7 c)) [] (says (start-7 c)) (sym (tested (c .before)) ∙ c .if7 .left)
 
-ring-good : (c : tie.Else7) → Passed (es (start-7 c)) (ns (start-7 c))
+ring-good : (c : tie.Else7) → Sampled (es (start-7 c)) (ns (start-7 c))
 ring-good c = ring-passed (c .before .before .before .before .before .before .before)
 
 course-good : (c : tie.Else7) → Near (stream (read (x (start-7 c))) (read (y (start-7 c))))

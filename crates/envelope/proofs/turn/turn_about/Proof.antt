@@ -13,9 +13,10 @@ use Rattle.rules.specs.Streams.{Stream, streams}
 use Rattle.rules.specs.Use.{envelope, turn-about}
 use Rattle.rules.specs.Refusals.{Test, unless, not-envelope}
 use Rattle.rules.specs.Entries.{ring-short, turn-answer}
-use Rattle.ringside.specs.Meaning.{Passed}
-use Rattle.ringside.specs.Samples.{streams-length}
-use Rattle.ringside.specs.Tests.{refuses, passes, passed, refused-1, refused-2, refused-3, none-refused}
+use Rattle.samples.specs.Positions.{Sampled}
+use Rattle.samples.specs.Samples.{streams-length}
+use Rattle.samples.specs.Tests.{refuses, passes}
+use Rattle.ringside.specs.Tests.{passed, refused-1, refused-2, refused-3, none-refused}
 use Rattle.envelope.specs.Meaning.{turned-as}
 use Rattle.envelope.specs.Turns.{parts-near, turned-length, turn-refused, turn-done}
 use Rattle.envelope.proofs.turn.turn_about.Statement.{statement}
@@ -70,7 +71,7 @@ returns-3 c =
 abbrev start : tie.Else3 → tie.Start
 start c = c .before .before .before .before
 
-ring-passed : (c : tie.Else3) → Passed (es (start c)) (ns (start c))
+ring-passed : (c : tie.Else3) → Sampled (es (start c)) (ns (start c))
 ring-passed c =
     passed (es (start c)) (ns (start c)) (c .before .before .before .if1 .left) (c .before .first-beyond .ensures) (omega arith)
 
