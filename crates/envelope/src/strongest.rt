@@ -1,6 +1,6 @@
 // The strongest set on a course: the greatest x * east + y * north over a ring's corners, and the first place that has it.
 
-use crate::test::is_envelope;
+use crate::test::of_ring_and_stream;
 ghost use mathlib.Core.Path.{_≡_};
 ghost use mathlib.Core.Bool.{_&&_};
 ghost use Prim.Native.Nat.{_<_};
@@ -14,10 +14,8 @@ ghost use Rattle.envelope.specs.Meaning.{strongest-as};
 ghost use Rattle.envelope.specs.Firsts.{First, stronger};
 use ringside::Stream;
 use ringside::at;
-use ringside::beyond;
 use ringside::set_on;
-use samples::tests::MOST;
-use samples::tests::first_beyond;
+use samples::tests::Tested;
 
 // The greatest set and the first place that has it, or a refusal's number and place.
 pub enum StrongestSet {
@@ -63,22 +61,12 @@ fn refused(number: u32, place: usize) -> StrongestSet
 pub fn strongest(east: &[i32], north: &[i32], x: i32, y: i32) -> StrongestSet
     ensures { λ r. ⌜ strongest-as r ≡ strongest-answer (now (east .entry)) (now (north .entry)) x y ⌝ }
 {
-    if east.len() != north.len() {
-        return refused(1, 0);
-    }
-    if MOST < east.len() {
-        return refused(2, 0);
-    }
-    let place = first_beyond(east, north);
-    if place < east.len() {
-        return refused(3, place);
-    }
     let course = Stream { east: x, north: y };
-    if beyond(course) {
-        return refused(3, 0);
-    }
-    if !is_envelope(east, north) {
-        return refused(9, 0);
+    match of_ring_and_stream(east, north, course) {
+        Tested::Passed => {}
+        Tested::Refused { number, place } => {
+            return refused(number, place);
+        }
     }
     if east.len() == 0 {
         return refused(10, 0);

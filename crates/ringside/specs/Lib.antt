@@ -1,3 +1,2 @@
 pub mod Meaning
-pub mod Tests
 pub mod Words
