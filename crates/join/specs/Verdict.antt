@@ -36,8 +36,8 @@ module _ (es ns fs ms east north : List ℤ) (scratch : List ℕ) where
       → join-answer es ns fs ms east north scratch ≡ then-answer t (then-answer u (unless both-tests joined-ring))
   unfolding join-answer
   by-tests t u e h =
-      answer-by (alone-tests es ns) (alone-tests fs ms ++ both-tests) joined-ring refl e
-      ∙ ap (then-answer t) (answer-by (alone-tests fs ms) both-tests joined-ring refl h)
+      answer-by (alone-tests es ns) (alone-tests fs ms ++ both-tests) joined-ring e
+      ∙ ap (then-answer t) (answer-by (alone-tests fs ms) both-tests joined-ring h)
 
   -- the first ring is refused, or the second; or both pass
   pub first-refused : {number place : ℕ} → tested-of (alone-tests es ns) ≡ Refused number place → join-answer es ns fs ms east north scratch ≡ refused number place

@@ -70,7 +70,7 @@ abbrev pub then-answer : {A : Type 0} → Tested → Answer A → Answer A
 then-answer Passed x = x
 then-answer (Refused k p) x = refused k p
 
-pub tested-after : (ts us : List Test) → tested-of (ts ++ us) ≡ then-tested (tested-of ts) (tested-of us)
+tested-after : (ts us : List Test) → tested-of (ts ++ us) ≡ then-tested (tested-of ts) (tested-of us)
 tested-after [] us = refl
 tested-after (t ∷ ts) us = go (t .holds) (tested-after ts us)
   where
@@ -91,11 +91,11 @@ answer-after (t ∷ ts) us x = go (t .holds) (answer-after ts us x)
     go false e = e
 
 -- by what was said of the first of them
-pub tested-by : (ts us : List Test) {r t : Tested} → r ≡ tested-of ts → r ≡ t → tested-of (ts ++ us) ≡ then-tested t (tested-of us)
-tested-by ts us p e = tested-after ts us ∙ ap (λ (t : Tested). then-tested t (tested-of us)) (sym p ∙ e)
+pub tested-by : (ts us : List Test) {t : Tested} → tested-of ts ≡ t → tested-of (ts ++ us) ≡ then-tested t (tested-of us)
+tested-by ts us e = tested-after ts us ∙ ap (λ (t : Tested). then-tested t (tested-of us)) e
 
-pub answer-by : {A : Type 0} (ts us : List Test) (x : A) {r t : Tested} → r ≡ tested-of ts → r ≡ t → unless (ts ++ us) x ≡ then-answer t (unless us x)
-answer-by ts us x p e = answer-after ts us x ∙ ap (λ (t : Tested). then-answer t (unless us x)) (sym p ∙ e)
+pub answer-by : {A : Type 0} (ts us : List Test) (x : A) {t : Tested} → tested-of ts ≡ t → unless (ts ++ us) x ≡ then-answer t (unless us x)
+answer-by ts us x e = answer-after ts us x ∙ ap (λ (t : Tested). then-answer t (unless us x)) e
 
 -- one test before others
 module _ {A : Type 0} (t : Test) (ts : List Test) (x : A) where

@@ -1,15 +1,13 @@
 -- `join::join` meets its contract: each return is the rules' tests in the order in which the code makes them.
 -- Assumes nothing.
-use mathlib.Core.Path.{_≡_, refl, sym, ap, _∙_, subst}
-use mathlib.Core.List.{List, [], _∷_}
+use mathlib.Core.Path.{_≡_, refl, sym, _∙_, subst}
+use mathlib.Core.List.{List}
 use native.Mathlib.Omega.{arith}
 use borrow.Author.Needs.{needs}
-use borrow.Author.Tests.{lt-ltb, le-ltb}
 use denote.Ref.{now}
-use Rattle.rules.specs.Streams.{Stream, most}
+use Rattle.rules.specs.Streams.{Stream}
 use Rattle.rules.specs.Refusals.{Answer}
-use Rattle.walk.specs.Both.{count}
-use Rattle.closing.specs.Meaning.{unless-short, Outcome, outcome-refused}
+use Rattle.closing.specs.Meaning.{Outcome, outcome-refused}
 use Rattle.samples.specs.Tests.{tested-of, quiet-number}
 use Rattle.samples.specs.declared.tests.Tested.the-variants.{Passed}
 use Rattle.envelope.specs.Tests.{alone-tests, sound}

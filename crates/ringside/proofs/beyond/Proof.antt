@@ -6,7 +6,7 @@ use borrow.Author.Needs.{needs}
 use lib.IntN.{ℤ}
 use mir.Syntax.{w32}
 use mir.Facts.{toZ-ofZ}
-use Rattle.rules.specs.Streams.{stream, within, beyond}
+use Rattle.rules.specs.Streams.{within, beyond}
 use Rattle.samples.specs.Samples.{beyond-parts}
 use Rattle.ringside.specs.Meaning.{stream-of}
 use Rattle.ringside.proofs.beyond.Statement.{statement}

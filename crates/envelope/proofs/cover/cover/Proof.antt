@@ -1,7 +1,6 @@
 -- `envelope::cover::cover` meets its contract: the tests refuse, or the corners' count and the walk decide.
 -- Assumes nothing.
 use mathlib.Core.Path.{_≡_, sym, ap, ap₂, _∙_}
-use mathlib.Core.Bool.{Bool}
 use mathlib.Core.List.{List, []}
 use native.Mathlib.Omega.{arith}
 use lib.IntN.{ℤ}
@@ -16,7 +15,6 @@ use Rattle.samples.specs.Positions.{Near, Sampled}
 use Rattle.samples.specs.Samples.{streams-length}
 use Rattle.samples.specs.Tests.{tested-of, then-answer, answer-by}
 use Rattle.samples.specs.declared.tests.Tested.{Tested}
-use Rattle.samples.specs.declared.tests.Tested.the-variants.{Passed}
 use Rattle.ringside.specs.Words.{read}
 use Rattle.envelope.specs.Tests.{stream-tests, stream-passed}
 use Rattle.envelope.specs.Walks.{inside-from, few-cover, enough-cover}
@@ -47,7 +45,7 @@ unfolding cover-answer
 after c e =
     let a = c .before in
     answer-by (stream-tests (es a) (ns a) (asked a)) [] (covers (streams (es a) (ns a)) (asked a))
-    (c .of-ring-and-stream .ensures ∙ ap (λ (s : Stream). tested-of (stream-tests (es a) (ns a) s)) (as-given a)) e
+    (sym (c .of-ring-and-stream .ensures ∙ ap (λ (s : Stream). tested-of (stream-tests (es a) (ns a) s)) (as-given a)) ∙ e)
 
 -- where they are passed
 abbrev start : tie.After-enum-told → tie.Start

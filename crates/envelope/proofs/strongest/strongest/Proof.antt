@@ -69,7 +69,7 @@ unfolding strongest-answer
 after c e =
     let a = c .before in
     answer-by (stream-tests (es a) (ns a) (stream (x a) (y a))) (no-corner a ∷ no-course a ∷ []) (says a)
-    (c .of-ring-and-stream .ensures ∙ ap (λ (s : Stream). tested-of (stream-tests (es a) (ns a) s)) (ap₂ stream (read-x a) (read-y a))) e
+    (sym (c .of-ring-and-stream .ensures ∙ ap (λ (s : Stream). tested-of (stream-tests (es a) (ns a) s)) (ap₂ stream (read-x a) (read-y a))) ∙ e)
 
 returns : tie.Need-returns
 returns c =

@@ -1,6 +1,6 @@
 -- `envelope::test::of_ring_and_stream` meets its contract: the tests of the lists, then those of the stream and for 9.
 -- Assumes nothing.
-use mathlib.Core.Path.{_≡_, sym, ap, ap₂, _∙_}
+use mathlib.Core.Path.{_≡_, sym, ap, _∙_}
 use mathlib.Core.Bool.{Bool, not, cond}
 use mathlib.Core.List.{[], _∷_}
 use borrow.Author.Needs.{needs}
@@ -26,7 +26,7 @@ after : (c : tie.After-of-lists) {t : Tested} → c .of-lists .result ≡ t → 
 after c e =
     let a = c .before .args in
     tested-by (ring-tests (a .east .now) (a .north .now)) (single-beyond (stream-of (a .s)) ∷ not-envelope (a .east .now) (a .north .now) ∷ [])
-    (c .of-lists .ensures) e
+    (sym (c .of-lists .ensures) ∙ e)
 
 -- where the lists pass, the stream and the envelope decide
 said : (c : tie.After-enum-told) {b : Bool} → let a = c .before .before .before .args in

@@ -50,7 +50,7 @@ Is c answer = turn-answer (es c) (ns c) (oe c) (on c) ≡ answer
 after : (c : tie.After-of-ring) {t : Tested} → c .of-ring .result ≡ t → let a = c .before in
     Is a (then-answer t (unless (short a ∷ []) (turned-ring a)))
 unfolding turn-answer
-after c e = let a = c .before in answer-by (alone-tests (es a) (ns a)) (short a ∷ []) (turned-ring a) (c .of-ring .ensures) e
+after c e = let a = c .before in answer-by (alone-tests (es a) (ns a)) (short a ∷ []) (turned-ring a) (sym (c .of-ring .ensures) ∙ e)
 
 returns : tie.Need-returns
 returns c =

@@ -24,7 +24,7 @@ after : (c : tie.After-of-lists) {t : Tested} → c .of-lists .result ≡ t → 
     tested-of (sample-tests (a .e .now) (a .n .now) (a .room)) ≡ then-tested t (four (ltb (a .room) (16 * length (a .e .now) + 64)))
 after c e =
     let a = c .before .args in
-    tested-by (ring-tests (a .e .now) (a .n .now)) (test 4 0 (ltb (a .room) (16 * length (a .e .now) + 64)) ∷ []) (c .of-lists .ensures) e
+    tested-by (ring-tests (a .e .now) (a .n .now)) (test 4 0 (ltb (a .room) (16 * length (a .e .now) + 64)) ∷ []) (sym (c .of-lists .ensures) ∙ e)
 
 few : (c : tie.After-enum-told) → length (c .before .before .before .args .e .now) ≤ most
 few c =
