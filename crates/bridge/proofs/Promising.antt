@@ -24,7 +24,7 @@ use Rattle.samples.specs.declared.tests.Tested.{Tested}
 use Rattle.samples.specs.declared.tests.Tested.the-variants as tests
 use Rattle.samples.specs.Positions.{at, Sampled}
 use Rattle.samples.specs.Samples.{sampled, samples-at, streams-length}
-use Rattle.samples.specs.Tests.{tested-of, then-answer, passed-tests, answer-after, quiet-scratch}
+use Rattle.samples.specs.Tests.{tested-of, then-answer, passed-tests, answer-by, quiet-scratch}
 use Rattle.bridge.specs.declared.BridgeAnswer.the-variants as answer
 use Rattle.bridge.specs.Promise.{BridgeAsks, bridge-tests, BridgePromise}
 use Rattle.bridge.proofs.Bridging.{found-one}
@@ -113,7 +113,7 @@ module _ (es ns : List ℤ) (a : ℤ) (scratch : List ℕ) where
 
   by-tests : {t : Tested} → tested-of (bridge-tests es ns a (length scratch)) ≡ t → bridge-answer es ns a scratch ≡ then-answer t (done said-here)
   unfolding bridge-answer
-  by-tests e = answer-after (bridge-tests es ns a (length scratch)) [] said-here ∙ ap (λ (x : Tested). then-answer x (done said-here)) e
+  by-tests e = answer-by (bridge-tests es ns a (length scratch)) [] said-here e
 
   pub refused-promise : {k p : ℕ} → tested-of (bridge-tests es ns a (length scratch)) ≡ tests.Refused k p
       → BridgePromise es ns a scratch (answer.Refused k p) scratch

@@ -11,8 +11,7 @@ use lib.ListN.{length, replicate}
 use Rattle.rules.specs.Lists.{zeros}
 use Rattle.rules.specs.Streams.{Stream}
 use Rattle.rules.specs.Refusals.{Answer, refused, done, unless, output-after, scratch-after}
-use Rattle.rules.specs.Entries.{ring-short, easts, norths}
-use Rattle.envelope.specs.Meaning.{counted}
+use Rattle.rules.specs.Entries.{ring-short, easts, norths, counted}
 use Rattle.closing.specs.declared.Ringed.{Ringed}
 use Rattle.closing.specs.declared.Ringed.the-variants as ringed
 

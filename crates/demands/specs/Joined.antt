@@ -23,7 +23,7 @@ use Rattle.outline.specs.Chains.{ring-members}
 use Rattle.rings.specs.Rings.{envelope-ring}
 use Rattle.rings.specs.Joins.{join-rings}
 use Rattle.rings.specs.Turning.{turn-ring}
-use Rattle.ringside.specs.Samples.{streams-length, streams-easts, streams-norths}
+use Rattle.samples.specs.Samples.{streams-length, streams-easts, streams-norths}
 use Rattle.envelope.specs.declared.turn.Turned.the-variants as turn
 use Rattle.envelope.specs.declared.cover.Covered.the-variants as said
 use Rattle.closing.specs.Meaning.{ringed-as}
@@ -31,7 +31,8 @@ use Rattle.closing.specs.declared.Ringed.{Ringed}
 use Rattle.closing.specs.declared.Ringed.the-variants as ringed
 use Rattle.join.proofs.join.Kinds as kinds
 use Rattle.join.proofs.join.Reads as reads
-use Rattle.demands.specs.Done.{when-done, counted-done, front, streams-parts}
+use Rattle.samples.specs.Outputs.{counted-done, front, streams-parts}
+use Rattle.demands.specs.Done.{when-done}
 use Rattle.demands.specs.Turned as turns
 use Rattle.demands.specs.Covered as covers
 

@@ -21,7 +21,7 @@ use Rattle.rules.specs.Refusals.{done, test, ring-tests, single-beyond, not-env
 use Rattle.rules.specs.Entries.{Strongest, strongest-of, strongest-answer}
 use Rattle.rings.specs.Lines.{no-samples}
 use Rattle.rings.specs.Strongest as rings
-use Rattle.ringside.specs.Samples.{streams-length}
+use Rattle.samples.specs.Samples.{streams-length}
 use Rattle.envelope.specs.Meaning.{strongest-as}
 use Rattle.envelope.specs.declared.strongest.StrongestSet.{StrongestSet}
 use Rattle.envelope.specs.declared.strongest.StrongestSet.the-variants as said

@@ -19,13 +19,14 @@ use Rattle.rules.specs.Use.{envelope, turn-about}
 use Rattle.rules.specs.Refusals.{Answer, refused, done, output-after, ring-tests, not-envelope}
 use Rattle.rules.specs.Entries.{easts, norths, ring-short, turn-answer}
 use Rattle.rings.specs.Turning.{turn-twice}
-use Rattle.ringside.specs.Samples.{streams-length, streams-easts, streams-norths}
-use Rattle.envelope.specs.Meaning.{turned-as, counted}
+use Rattle.samples.specs.Samples.{streams-length, streams-easts, streams-norths}
+use Rattle.envelope.specs.Meaning.{turned-as}
 use Rattle.envelope.specs.declared.turn.Turned.{Turned}
 use Rattle.envelope.specs.declared.turn.Turned.the-variants as turn
 use Rattle.envelope.proofs.turn.turn_about.Kinds as turn-kinds
 use Rattle.envelope.proofs.turn.turn_about.Reads as turn-reads
-use Rattle.demands.specs.Done.{when-done, counted-done, front, streams-parts}
+use Rattle.samples.specs.Outputs.{counted-done, front, streams-parts}
+use Rattle.demands.specs.Done.{when-done}
 
 -- a call of turn about
 pub record Turning : Type 1 where

@@ -1,4 +1,5 @@
 pub mod Meaning
+pub mod Tests
 pub mod Walks
 pub mod Firsts
 pub mod Strongest

@@ -5,10 +5,8 @@ use mathlib.Core.Bool.{Bool, true, false}
 use mathlib.Core.List.{List}
 use Prim.Native.Nat.{ℕ}
 use lib.IntN.{ℤ}
-use lib.ListN.{length}
-use Rattle.rules.specs.Streams.{Stream}
 use Rattle.rules.specs.Refusals.{Answer, refused, done, output-after}
-use Rattle.rules.specs.Entries.{Strongest, easts, norths, turn-answer}
+use Rattle.rules.specs.Entries.{Strongest, easts, norths, counted, turn-answer}
 use Rattle.envelope.specs.declared.strongest.StrongestSet.{StrongestSet}
 use Rattle.envelope.specs.declared.strongest.StrongestSet.the-variants as strongest
 use Rattle.envelope.specs.declared.cover.Covered.{Covered}
@@ -29,10 +27,6 @@ covered-as (cover.Refused number place) = refused number place
 abbrev pub turned-as : Turned → Answer ℕ
 turned-as (turn.Corners count) = done count
 turned-as (turn.Refused number place) = refused number place
-
-abbrev pub counted : Answer (List Stream) → Answer ℕ
-counted (done r) = done (length r)
-counted (refused number place) = refused number place
 
 -- the promise of turning about: the answer, and both outputs, before and after
 pub record TurnPromise (es ns oe on : List ℤ) (r : Turned) (oe' on' : List ℤ) : Type 0 where

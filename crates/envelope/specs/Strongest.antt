@@ -3,15 +3,15 @@ use mathlib.Core.Path.{_≡_, sym, ap₂, subst}
 use mathlib.Core.List.{List, [], _∷_, List·Memᴰ}
 use Prim.Native.Nat.{ℕ, _<_}
 use native.Mathlib.Omega.{arith}
-use lib.IntN.{ℤ}
+use lib.IntN.{ℤ, pos}
 use lib.Signed.{_≤ℤ_, _<ℤ_}
 use lib.ListN.{length}
 use Rattle.whole.specs.Laws.{test-lt, test-nlt}
-use Rattle.rules.specs.Streams.{Stream, sample}
+use Rattle.rules.specs.Streams.{Stream, stream, sample}
 use Rattle.rules.specs.Use.{set-on, strongest, strongest-place}
 use Rattle.rules.specs.Entries.{Strongest, strongest-of}
 use Rattle.rings.specs.Strongest.{strongest-only, strongest-place-only}
-use Rattle.ringside.specs.Samples.{sample-in}
+use Rattle.samples.specs.Scans.{at-place-in}
 use Rattle.envelope.specs.Firsts.{First, first-unbeaten, stronger}
 
 abbrev pub greatest : ℤ → ℕ → Strongest
@@ -27,7 +27,7 @@ module _ (x y : ℤ) where
       at-most s m = test-nlt (set-on x y (sample (p ∷ ps) r)) (set-on x y s) (first-unbeaten f m)
 
       value : strongest x y p ps ≡ set-on x y (sample (p ∷ ps) r)
-      value = strongest-only x y p ps (sample-in (p ∷ ps) r (f .here)) at-most
+      value = strongest-only x y p ps (at-place-in (p ∷ ps) r (stream (pos 0) (pos 0)) (f .here)) at-most
 
       weaker : (k : ℕ) → k < r → set-on x y (sample (p ∷ ps) k) <ℤ set-on x y (sample (p ∷ ps) r)
       weaker k h = test-lt (set-on x y (sample (p ∷ ps) k)) (set-on x y (sample (p ∷ ps) r)) (f .before k h)

@@ -16,15 +16,16 @@ use Rattle.rules.specs.Chain.{leftmost}
 use Rattle.rules.specs.Ring.{ring}
 use Rattle.rules.specs.Use.{envelope, turn-about}
 use Rattle.rules.specs.Refusals.{Answer, refused, done, output-after}
-use Rattle.rules.specs.Entries.{easts, norths, turn-answer}
+use Rattle.rules.specs.Entries.{easts, norths, counted, turn-answer}
 use Rattle.outline.specs.Lists.{two-keys-no, is-first-place, equal-same, no-same}
 use Rattle.rings.specs.Rings.{envelope-ring}
 use Rattle.rings.specs.Cycle.{Entered, enter, from-place, turn-from}
 use Rattle.rings.specs.Lines.{no-samples}
-use Rattle.ringside.specs.Meaning.{Passed}
-use Rattle.ringside.specs.Samples.{streams-length, streams-sample, streams-easts, streams-norths, sample-in}
+use Rattle.samples.specs.Positions.{Sampled}
+use Rattle.samples.specs.Samples.{streams-length, streams-easts, streams-norths}
+use Rattle.samples.specs.Scans.{at-place-in}
 use Rattle.envelope.specs.declared.turn.Turned.{Turned}
-use Rattle.envelope.specs.Meaning.{turned-as, counted, TurnPromise}
+use Rattle.envelope.specs.Meaning.{turned-as, TurnPromise}
 use Rattle.envelope.specs.Firsts.{First, first-apart, first-unbeaten, nearer-entry, entry-orders}
 use Rattle.envelope.specs.Writes.{map-drop, map-take}
 
@@ -60,7 +61,7 @@ module _ (xs : List Stream) {r : ℕ} (f : First nearer-entry xs (length xs) r) 
   entered e = record {
     here = omega (arith, f .here);
     turns-about =
-        turn-from xs (sample xs r) e (sample-in xs r (f .here)) (λ s m. unbeaten s m .0) (λ s m h. unbeaten s m .1 (sym h)) ∙
+        turn-from xs (sample xs r) e (at-place-in xs r (stream (pos 0) (pos 0)) (f .here)) (λ s m. unbeaten s m .0) (λ s m h. unbeaten s m .1 (sym h)) ∙
         ap (λ (k : ℕ). map turned (from-place k xs)) first;
   }
 
@@ -79,11 +80,8 @@ entered-at (x ∷ xs) {i} {r} f h k e = entered (x ∷ xs) (subst (λ (n : ℕ).
 
 -- ---- the parts of the ring turned about
 
-pub parts-near : {es ns : List ℤ} → Passed es ns → AllNear es × AllNear ns
-parts-near {es} {ns} p = (
-  record { near = λ i. subst (λ (s : Stream). Within (s .east) limit) (streams-sample es ns (p .even) i) (p .near i .east-near) },
-  record { near = λ i. subst (λ (s : Stream). Within (s .north) limit) (streams-sample es ns (p .even) i) (p .near i .north-near) },
-)
+pub parts-near : {es ns : List ℤ} → Sampled es ns → AllNear es × AllNear ns
+parts-near p = (record { near = p .east-near }, record { near = p .north-near })
 
 zero-near : Within (pos 0) limit
 zero-near = record { within = lit≤ tt }
@@ -148,7 +146,7 @@ module _ (es ns oe on : List ℤ) where
       }
 
   -- from the place of entry on all corners are written
-  pub turn-done : {r : Turned} {oe' on' : List ℤ} {k : ℕ} → Passed es ns → envelope (streams es ns) ≡ true → Entry (streams es ns) k →
+  pub turn-done : {r : Turned} {oe' on' : List ℤ} {k : ℕ} → Sampled es ns → envelope (streams es ns) ≡ true → Entry (streams es ns) k →
       turned-as r ≡ done (length es) → oe' ≡ written (turned-from k es) oe → on' ≡ written (turned-from k ns) on →
       turn-answer es ns oe on ≡ done (turn-about (streams es ns)) → TurnPromise es ns oe on r oe' on'
   turn-done p v t h he hn e =

@@ -1,20 +1,19 @@
 // The cover test: the ring has three corners or more and the stream lies strictly inside every edge.
 
-use crate::test::is_envelope;
+use crate::test::of_ring_and_stream;
 ghost use mathlib.Core.Path.{_≡_};
 ghost use Prim.Native.Nat.{_<_};
 ghost use lib.ListN.{length};
 ghost use Rattle.rules.specs.Streams.{streams};
 ghost use Rattle.rules.specs.Entries.{cover-answer};
-ghost use Rattle.ringside.specs.Meaning.{stream-of, Near, Passed};
+ghost use Rattle.samples.specs.Positions.{Near, Sampled};
+ghost use Rattle.ringside.specs.Meaning.{stream-of};
 ghost use Rattle.envelope.specs.Meaning.{covered-as};
 ghost use Rattle.envelope.specs.Walks.{inside-from};
-use ringside::MOST;
 use ringside::Stream;
 use ringside::at;
-use ringside::beyond;
-use ringside::first_beyond;
 use ringside::strictly_right;
+use samples::tests::Tested;
 
 // Yes or no, or a refusal's number and place.
 pub enum Covered {
@@ -25,7 +24,7 @@ pub enum Covered {
 
 // The stream lies strictly inside every edge, from place 0 on and back.
 fn inside(east: &[i32], north: &[i32], s: Stream) -> bool
-    requires { ⌜ Passed (now east) (now north) × Near (stream-of s) × (0 < length (now east)) ⌝ }
+    requires { ⌜ Sampled (now east) (now north) × Near (stream-of s) × (0 < length (now east)) ⌝ }
     ensures { λ r. ⌜ r ≡ inside-from (streams (now (east .entry)) (now (north .entry))) (stream-of s) 1 ⌝ }
 {
     let n = east.len();
@@ -39,32 +38,16 @@ fn inside(east: &[i32], north: &[i32], s: Stream) -> bool
     strictly_right(at(east, north, n - 1), at(east, north, 0), s)
 }
 
-fn refused(number: u32, place: usize) -> Covered
-    ensures { λ r. ⌜ r ≡ Covered.Refused number place ⌝ }
-{
-    Covered::Refused { number, place }
-}
-
 // Whether the ring covers the stream (x, y), unless refused: 1, 2 and 3 for the ring, 3 for the stream, 9.
 pub fn cover(east: &[i32], north: &[i32], x: i32, y: i32) -> Covered
     ensures { λ r. ⌜ covered-as r ≡ cover-answer (now (east .entry)) (now (north .entry)) x y ⌝ }
 {
-    if east.len() != north.len() {
-        return refused(1, 0);
-    }
-    if MOST < east.len() {
-        return refused(2, 0);
-    }
-    let place = first_beyond(east, north);
-    if place < east.len() {
-        return refused(3, place);
-    }
     let s = Stream { east: x, north: y };
-    if beyond(s) {
-        return refused(3, 0);
-    }
-    if !is_envelope(east, north) {
-        return refused(9, 0);
+    match of_ring_and_stream(east, north, s) {
+        Tested::Passed => {}
+        Tested::Refused { number, place } => {
+            return Covered::Refused { number, place };
+        }
     }
     if east.len() < 3 {
         return Covered::No;

@@ -1,6 +1,6 @@
 // The strongest set on a course: the greatest x * east + y * north over a ring's corners, and the first place that has it.
 
-use crate::test::is_envelope;
+use crate::test::of_ring_and_stream;
 ghost use mathlib.Core.Path.{_≡_};
 ghost use mathlib.Core.Bool.{_&&_};
 ghost use Prim.Native.Nat.{_<_};
@@ -8,15 +8,14 @@ ghost use lib.IntN.{pos};
 ghost use lib.ListN.{length};
 ghost use Rattle.rules.specs.Streams.{streams, eqZ};
 ghost use Rattle.rules.specs.Entries.{strongest-answer};
-ghost use Rattle.ringside.specs.Meaning.{stream-of, Near, Passed};
+ghost use Rattle.samples.specs.Positions.{Near, Sampled};
+ghost use Rattle.ringside.specs.Meaning.{stream-of};
 ghost use Rattle.envelope.specs.Meaning.{strongest-as};
 ghost use Rattle.envelope.specs.Firsts.{First, stronger};
-use ringside::MOST;
 use ringside::Stream;
 use ringside::at;
-use ringside::beyond;
-use ringside::first_beyond;
 use ringside::set_on;
+use samples::tests::Tested;
 
 // The greatest set and the first place that has it, or a refusal's number and place.
 pub enum StrongestSet {
@@ -26,7 +25,7 @@ pub enum StrongestSet {
 
 // The first place that no corner beats.
 fn strongest_place(east: &[i32], north: &[i32], course: Stream) -> usize
-    requires { ⌜ Passed (now east) (now north) × Near (stream-of course) × (0 < length (now east)) ⌝ }
+    requires { ⌜ Sampled (now east) (now north) × Near (stream-of course) × (0 < length (now east)) ⌝ }
     ensures { λ r. ⌜ First (stronger (course .east) (course .north)) (streams (now (east .entry)) (now (north .entry)))
         (length (now (east .entry))) r ⌝ }
 {
@@ -62,22 +61,12 @@ fn refused(number: u32, place: usize) -> StrongestSet
 pub fn strongest(east: &[i32], north: &[i32], x: i32, y: i32) -> StrongestSet
     ensures { λ r. ⌜ strongest-as r ≡ strongest-answer (now (east .entry)) (now (north .entry)) x y ⌝ }
 {
-    if east.len() != north.len() {
-        return refused(1, 0);
-    }
-    if MOST < east.len() {
-        return refused(2, 0);
-    }
-    let place = first_beyond(east, north);
-    if place < east.len() {
-        return refused(3, place);
-    }
     let course = Stream { east: x, north: y };
-    if beyond(course) {
-        return refused(3, 0);
-    }
-    if !is_envelope(east, north) {
-        return refused(9, 0);
+    match of_ring_and_stream(east, north, course) {
+        Tested::Passed => {}
+        Tested::Refused { number, place } => {
+            return refused(number, place);
+        }
     }
     if east.len() == 0 {
         return refused(10, 0);

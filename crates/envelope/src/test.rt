@@ -1,4 +1,4 @@
-// Is a ring an envelope: one pass over its corners, each looked at with the two before it.
+// The tests of a ring that comes as two lists. Is it an envelope: one pass over its corners, each looked at with the two before it.
 
 ghost use mathlib.Core.Path.{_≡_};
 ghost use Prim.Native.Nat.{_≤_};
@@ -6,12 +6,18 @@ ghost use lib.ListN.{length};
 ghost use Rattle.rules.specs.Streams.{streams};
 ghost use Rattle.rules.specs.Use.{envelope};
 ghost use Rattle.neighbours.specs.Test.{turns, closes};
-ghost use Rattle.ringside.specs.Meaning.{stream-of, Near, Passed};
+ghost use Rattle.samples.specs.Positions.{Near, Sampled};
+ghost use Rattle.ringside.specs.Meaning.{stream-of};
+ghost use Rattle.samples.specs.Tests.{tested-of};
 ghost use Rattle.envelope.specs.Walks.{round-from};
+ghost use Rattle.envelope.specs.Tests.{stream-tests, alone-tests};
 use ringside::Stream;
 use ringside::at;
+use ringside::beyond;
 use ringside::leftmost;
 use ringside::strictly_right;
+use samples::tests::Tested;
+use samples::tests::of_lists;
 
 // At b, come to from a, the ring turns strictly right to c; and from a side that does not go east only to one that goes west.
 fn turns(a: Stream, b: Stream, c: Stream) -> bool
@@ -40,7 +46,7 @@ fn closes(a: Stream, b: Stream, first: Stream) -> bool
 
 // From place 0 to place 1, over all corners and back to place 0.
 fn goes_round(east: &[i32], north: &[i32]) -> bool
-    requires { ⌜ Passed (now east) (now north) × (2 ≤ length (now east)) ⌝ }
+    requires { ⌜ Sampled (now east) (now north) × (2 ≤ length (now east)) ⌝ }
     ensures { λ r. ⌜ r ≡ round-from (streams (now (east .entry)) (now (north .entry))) 2 ⌝ }
 {
     let n = east.len();
@@ -63,8 +69,8 @@ fn goes_round(east: &[i32], north: &[i32]) -> bool
 }
 
 // The ring equals the ring of its own positions.
-pub fn is_envelope(east: &[i32], north: &[i32]) -> bool
-    requires { ⌜ Passed (now east) (now north) ⌝ }
+fn is_envelope(east: &[i32], north: &[i32]) -> bool
+    requires { ⌜ Sampled (now east) (now north) ⌝ }
     ensures { λ r. ⌜ r ≡ envelope (streams (now (east .entry)) (now (north .entry))) ⌝ }
 {
     let n = east.len();
@@ -80,4 +86,35 @@ pub fn is_envelope(east: &[i32], north: &[i32]) -> bool
         return goes_round(east, north);
     }
     false
+}
+
+fn refused(number: u32, place: usize) -> Tested
+    ensures { λ r. ⌜ r ≡ Tested.Refused number place ⌝ }
+{
+    Tested::Refused { number, place }
+}
+
+// The tests of a ring and of a stream, which is tested for 3 after the ring's own 3: 1, 2, 3, 3, 9.
+pub fn of_ring_and_stream(east: &[i32], north: &[i32], s: Stream) -> Tested
+    ensures { λ r. ⌜ r ≡ tested-of (stream-tests (now (east .entry)) (now (north .entry)) (stream-of s)) ⌝ }
+{
+    match of_lists(east, north) {
+        Tested::Refused { number, place } => refused(number, place),
+        Tested::Passed => {
+            if beyond(s) {
+                return refused(3, 0);
+            }
+            if !is_envelope(east, north) {
+                return refused(9, 0);
+            }
+            Tested::Passed
+        }
+    }
+}
+
+// The tests of a ring alone, 1, 2, 3, 9: those with a stream that is within the limit.
+pub fn of_ring(east: &[i32], north: &[i32]) -> Tested
+    ensures { λ r. ⌜ r ≡ tested-of (alone-tests (now (east .entry)) (now (north .entry))) ⌝ }
+{
+    of_ring_and_stream(east, north, Stream { east: 0, north: 0 })
 }

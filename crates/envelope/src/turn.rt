@@ -1,7 +1,7 @@
 // Turning about: the ring of all positions with both signs changed. It is the same cycle of corners, entered at the corner with the greatest east
 // and, among those, the least north.
 
-use crate::test::is_envelope;
+use crate::test::of_ring;
 ghost use mathlib.Core.Path.{_≡_};
 ghost use mathlib.Core.Bool.{true};
 ghost use mathlib.Core.List.{map};
@@ -13,10 +13,9 @@ ghost use Rattle.rules.specs.Streams.{streams};
 ghost use Rattle.rules.specs.Use.{envelope};
 ghost use Rattle.envelope.specs.Meaning.{TurnPromise};
 ghost use Rattle.envelope.specs.Turns.{Entry, AllNear, turned-from};
-use ringside::MOST;
 use ringside::at;
-use ringside::first_beyond;
 use ringside::leftmost;
+use samples::tests::Tested;
 
 // How many corners were written, or a refusal's number and place.
 pub enum Turned {
@@ -78,18 +77,11 @@ pub fn turn_about(
     ensures { λ r. ⌜ TurnPromise (now (east .entry)) (now (north .entry)) (now («out_east» .entry)) (now («out_north» .entry)) r
         (now («out_east» .exit)) (now («out_north» .exit)) ⌝ }
 {
-    if east.len() != north.len() {
-        return refused(1, 0);
-    }
-    if MOST < east.len() {
-        return refused(2, 0);
-    }
-    let place = first_beyond(east, north);
-    if place < east.len() {
-        return refused(3, place);
-    }
-    if !is_envelope(east, north) {
-        return refused(9, 0);
+    match of_ring(east, north) {
+        Tested::Passed => {}
+        Tested::Refused { number, place } => {
+            return refused(number, place);
+        }
     }
     if out_east.len() < east.len() {
         return refused(5, 0);

@@ -8,8 +8,7 @@ use lib.IntN.{ℤ, pos}
 use lib.ListN.{length}
 use Rattle.rules.specs.Streams.{Stream}
 use Rattle.rules.specs.Refusals.{Answer, refused, done}
-use Rattle.rules.specs.Entries.{Strongest, easts, norths}
-use Rattle.envelope.specs.Meaning.{counted}
+use Rattle.rules.specs.Entries.{Strongest, easts, norths, counted}
 use Rattle.closing.specs.Meaning.{ringed-as, Outcome}
 use Rattle.closing.specs.declared.Ringed.{Ringed}
 use Rattle.exports.specs.declared.rings.StrongestC.{StrongestC}

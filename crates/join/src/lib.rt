@@ -1,6 +1,5 @@
 // Join: the ring of both rings' positions, in time linear in the corners: both chains, walked over the corners of both rings, and closed.
 
-ghost use mathlib.Core.Path.{_≡_};
 ghost use Prim.Native.Nat.{_+_, _≤_};
 ghost use lib.ListN.{length};
 ghost use Rattle.rules.specs.Streams.{streams};
@@ -8,48 +7,12 @@ ghost use Rattle.rules.specs.Use.{join};
 ghost use Rattle.rules.specs.Entries.{join-answer};
 ghost use Rattle.walk.specs.Both.{Rings, count};
 ghost use Rattle.closing.specs.Meaning.{unless-short, Outcome};
-ghost use Rattle.join.specs.Meaning.{tested-as, ring-verdict};
 use closing::Ringed;
 use closing::close;
-use envelope::test::is_envelope;
-use ringside::MOST;
-use ringside::first_beyond;
+use envelope::test::of_ring;
+use samples::tests::MOST;
+use samples::tests::Tested;
 use walk::chain::chain;
-
-// What the tests of one ring say: nothing against it, or a refusal's number and place.
-enum Tested {
-    Sound,
-    Refused { number: u32, place: usize },
-}
-
-// The tests of one ring: 1, 2, 3 and 9.
-fn test_ring(east: &[i32], north: &[i32]) -> Tested
-    ensures { λ r. ⌜ tested-as r ≡ ring-verdict (now (east .entry)) (now (north .entry)) ⌝ }
-{
-    if east.len() != north.len() {
-        return Tested::Refused {
-            number: 1,
-            place: 0,
-        };
-    }
-    if MOST < east.len() {
-        return Tested::Refused {
-            number: 2,
-            place: 0,
-        };
-    }
-    let place = first_beyond(east, north);
-    if place < east.len() {
-        return Tested::Refused { number: 3, place };
-    }
-    if !is_envelope(east, north) {
-        return Tested::Refused {
-            number: 9,
-            place: 0,
-        };
-    }
-    Tested::Sound
-}
 
 // The join of two rings that passed their tests, with room in scratch: both chains, closed. Scratch is zero afterwards.
 fn write_join(
@@ -99,14 +62,14 @@ pub fn join(
         (now («out_north» .entry)) (now (scratch .entry)))
         r (now («out_east» .entry)) (now («out_east» .exit)) (now («out_north» .entry)) (now («out_north» .exit)) (now (scratch .entry)) (now (scratch .exit)) ⌝ }
 {
-    match test_ring(east, north) {
-        Tested::Sound => {}
+    match of_ring(east, north) {
+        Tested::Passed => {}
         Tested::Refused { number, place } => {
             return Ringed::Refused { number, place };
         }
     }
-    match test_ring(east2, north2) {
-        Tested::Sound => {}
+    match of_ring(east2, north2) {
+        Tested::Passed => {}
         Tested::Refused { number, place } => {
             return Ringed::Refused { number, place };
         }

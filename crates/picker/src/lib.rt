@@ -3,11 +3,11 @@
 mod five;
 pub mod keys;
 mod scan;
-pub mod scratch;
 
 ghost use lib.ListN.{take};
 ghost use Rattle.picker.specs.Picking.{Pickable, Picks, Grouped, Pivots};
 ghost use Rattle.picker.specs.Outcome.{PickPromise};
+use samples::words::clear;
 
 // The answer: the number of the asked rank, or the refusal's number and place.
 pub enum Picked {
@@ -86,6 +86,6 @@ pub fn pick(xs: &[i32], r: usize, scratch: &mut [u32]) -> Picked
     }
     keys::load(xs, scratch);
     let said = pick_key(scratch, n, r);
-    scratch::clear(scratch);
+    clear(scratch);
     Picked::Done(keys::number(said.key))
 }

@@ -12,11 +12,10 @@ use Rattle.rules.specs.Lists.{some-of, first-place}
 use Rattle.rules.specs.Streams.{Stream, streams, most, beyond}
 use Rattle.rules.specs.Ring.{ring}
 use Rattle.rules.specs.Refusals.{Answer, refused, done, output-after}
-use Rattle.rules.specs.Entries.{easts, norths, ring-answer}
+use Rattle.rules.specs.Entries.{easts, norths, ring-answer, counted}
 use Rattle.rules.specs.Program.{most-lines, samples, ring-of-text, printed, program}
 use Rattle.rounds.specs.Steps.{no-step-without-bridge}
-use Rattle.envelope.specs.Meaning.{counted}
-use Rattle.text.specs.Corners.{streams-length}
+use Rattle.samples.specs.Samples.{streams-length}
 use Rattle.text.specs.Meaning as text
 use Rattle.text.specs.Lines.{room-for-all, samples-few}
 use Rattle.text.specs.declared.reading.Read.{Read}
@@ -25,7 +24,7 @@ use Rattle.closing.specs.declared.Ringed.{Ringed}
 use Rattle.closing.specs.declared.Ringed.the-variants as ringed
 use Rattle.closing.specs.Meaning.{ringed-as, Outcome}
 use Rattle.program.specs.Room.{ring-few, ring-of-samples-room}
-use Rattle.program.specs.Told.{same-count, told-refused, Told, told}
+use Rattle.program.specs.Told.{told-refused, Told, told}
 
 -- ---- the ring
 
@@ -81,9 +80,9 @@ module _ (es ns : List ℤ) (even : length es ≡ length ns) (few : length es �
 
 -- what comes of reading a text into lists of as many places as it can have samples
 module _ (bs : List ℕ) (east east' north north' : List ℤ) (e : most-lines ≤ length east) (n : most-lines ≤ length north) (r : Read)
-    (says : text.read-as r ≡ text.counted (text.samples-answer bs east north)) where
+    (says : text.read-as r ≡ counted (text.samples-answer bs east north)) where
   reads : text.read-as r ≡ counted (samples bs)
-  reads = says ∙ same-count (text.samples-answer bs east north) ∙ ap counted (room-for-all bs east north e n)
+  reads = says ∙ ap counted (room-for-all bs east north e n)
 
   pub text-refused : (k p : ℕ) → r ≡ read.Refused k p → samples bs ≡ refused k p
   text-refused k p q = told-refused (samples bs) k p (sym (ap text.read-as q) ∙ reads)

@@ -8,15 +8,8 @@ use lib.IntN.{ℤ}
 use lib.ListN.{length, take, length-map}
 use Rattle.rules.specs.Streams.{Stream, streams}
 use Rattle.rules.specs.Refusals.{Answer, refused, done, output-after}
-use Rattle.rules.specs.Entries.{easts, norths}
-use Rattle.envelope.specs.Meaning.{counted}
-use Rattle.text.specs.Meaning as text
-use Rattle.demands.specs.Done.{counted-done, front, streams-parts}
-
--- the text's count is the rings'
-pub same-count : (a : Answer (List Stream)) → text.counted a ≡ counted a
-same-count (refused k p) = refl
-same-count (done xs) = refl
+use Rattle.rules.specs.Entries.{easts, norths, counted}
+use Rattle.samples.specs.Outputs.{counted-done, front, streams-parts}
 
 pub told-refused : (a : Answer (List Stream)) (k p : ℕ) → refused k p ≡ counted a → a ≡ refused k p
 told-refused (refused l q) k p e =

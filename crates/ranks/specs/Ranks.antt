@@ -400,11 +400,11 @@ pub record Held {A : Type 0} (P : A → Type 0) : Type 0 where
   pub item : A
   pub holds : P item
 
-module _ {A : Type 0} {P : A → Type 0} {le : A → A → Bool} (o : OrderOn P le) where
-  abbrev item-of : Held P → A
-  item-of h = h .item
+abbrev pub item-of : {A : Type 0} {P : A → Type 0} → Held P → A
+item-of h = h .item
 
-  held-order : Order (by-key item-of le)
+module _ {A : Type 0} {P : A → Type 0} {le : A → A → Bool} (o : OrderOn P le) where
+  pub held-order : Order (by-key (item-of {P = P}) le)
   held-order =
       record {
         total = λ x y. o .total (x .item) (y .item) (x .holds) (y .holds);

@@ -12,7 +12,7 @@ use Rattle.rules.specs.Record.{version, said-length}
 use Rattle.rules.specs.Refusals.{Answer, refused, done}
 use Rattle.rules.specs.Entries.{record-corners}
 use Rattle.neighbours.specs.Test.{turns, closes}
-use Rattle.ringside.specs.Meaning.{Near}
+use Rattle.samples.specs.Positions.{Near}
 use Rattle.reader.specs.declared.Corners.{Corners}
 use Rattle.reader.specs.declared.Corners.the-variants as corners
 

@@ -15,8 +15,8 @@ use Rattle.rules.specs.Use.{envelope}
 use Rattle.rules.specs.Record.{version}
 use Rattle.rules.specs.Refusals.{Answer, refused, done, Test, test, unless, too-many, part-beyond}
 use Rattle.rules.specs.Entries.{record-corners, record-answer, ring-short}
-use Rattle.ringside.specs.Samples.{some-of-place}
-use Rattle.ringside.specs.Tests.{refuses, passes}
+use Rattle.samples.specs.Scans.{some-by-place}
+use Rattle.samples.specs.Tests.{refuses, passes}
 use Rattle.reader.specs.Meaning.{frame-number, misframed}
 
 -- ---- three tests, and the number of the one that holds
@@ -76,7 +76,7 @@ module _ (bs : List ℕ) (es ns : List ℤ) where
       unfolding corners last-tests
       refused-3 place e h =
           not-many
-          ∙ refuses (part-beyond corners) last-tests corners (some-of-place corners ∙ lt-ltb (first-place beyond corners) (length corners) (omega arith))
+          ∙ refuses (part-beyond corners) last-tests corners (some-by-place beyond corners ∙ lt-ltb (first-place beyond corners) (length corners) (omega arith))
           ∙ ap (refused 3) (sym e)
 
       module _ (near : some-of beyond (record-corners bs) ≡ false) where
@@ -115,4 +115,4 @@ long-enough bs e =
 
 -- a first place that is the count is none
 pub none-beyond : (xs : List Stream) (place : ℕ) → place ≡ first-place beyond xs → length xs ≤ place → some-of beyond xs ≡ false
-none-beyond xs place e h = some-of-place xs ∙ le-ltb (first-place beyond xs) (length xs) (omega arith)
+none-beyond xs place e h = some-by-place beyond xs ∙ le-ltb (first-place beyond xs) (length xs) (omega arith)

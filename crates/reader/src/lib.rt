@@ -8,16 +8,15 @@ ghost use Rattle.rules.specs.Streams.{sample, beyond};
 ghost use Rattle.rules.specs.Use.{envelope};
 ghost use Rattle.rules.specs.Record.{word, twos};
 ghost use Rattle.rules.specs.Refusals.{output-after};
-ghost use Rattle.rules.specs.Entries.{record-corners, record-answer, easts, norths};
+ghost use Rattle.rules.specs.Entries.{record-corners, record-answer, easts, norths, counted};
 ghost use Rattle.ringside.specs.Meaning.{stream-of};
-ghost use Rattle.envelope.specs.Meaning.{counted};
 ghost use Rattle.envelope.specs.Walks.{round-from};
 ghost use Rattle.reader.specs.Meaning.{corners-as, frame-number, turns-at, closes-at, Passed, Room};
-use ringside::MOST;
 use ringside::Stream;
 use ringside::beyond;
 use ringside::leftmost;
 use ringside::strictly_right;
+use samples::tests::MOST;
 
 // What comes of a record: so many corners, or a refusal's number and place.
 pub enum Corners {

@@ -11,7 +11,7 @@ use Rattle.rules.specs.Ring.{ring}
 use Rattle.rules.specs.Refusals.{Answer, refused, Test, test, unless}
 use Rattle.rules.specs.Entries.{step-without-bridge, ring-short, ring-answer}
 use Rattle.rounds.specs.Steps.{no-step-without-bridge}
-use Rattle.samples.specs.Tests.{tested-of, sample-tests, then-answer, answer-after, quiet-number}
+use Rattle.samples.specs.Tests.{tested-of, sample-tests, then-answer, answer-by, quiet-number}
 use Rattle.samples.specs.declared.tests.Tested.{Tested}
 use Rattle.samples.specs.declared.tests.Tested.the-variants.{Passed, Refused}
 use Rattle.closing.specs.Meaning.{unless-short, Outcome, outcome-refused}
@@ -34,7 +34,7 @@ module _ (es ns east north : List ℤ) (scratch : List ℕ) where
 
   by-tests : (t : Tested) → tested-of tests ≡ t → answer ≡ then-answer t (unless later made)
   unfolding ring-answer
-  by-tests t e = answer-after tests later made ∙ ap (λ (t : Tested). then-answer t (unless later made)) e
+  by-tests t e = answer-by tests later made e
 
   pub refused-early : {k p : ℕ} → tested-of tests ≡ Refused k p → Outcome answer (ringed.Refused k p) east east north north scratch scratch
   refused-early {k} {p} e = outcome-refused k p (by-tests (Refused k p) e) (quiet-number tests tt e)

@@ -16,8 +16,8 @@ use Rattle.rules.specs.Chain.{Of, UpperChain, empty, starts, upper, lower, lowe
 use Rattle.rules.specs.Ring.{closed, ring}
 use Rattle.outline.specs.Lists.{is-some-of, first-place-in, first-place-passes, same-equal, equal-same}
 use Rattle.outline.specs.Chains.{upper-is, upper-corners, lower-corners}
-use Rattle.ringside.specs.Meaning.{Near}
-use Rattle.ringside.specs.Samples.{sample-near, streams-length}
+use Rattle.samples.specs.Positions.{Near}
+use Rattle.samples.specs.Samples.{sample-near, streams-length}
 use Rattle.samples.specs.Scans.{at-place-in}
 use Rattle.stack.specs.Places.{listed, length-listed, listed-alike}
 use Rattle.walk.specs.Both.{Corners, both, count, Stand}

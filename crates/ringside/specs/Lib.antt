@@ -1,4 +1,2 @@
 pub mod Meaning
-pub mod Samples
-pub mod Tests
 pub mod Words

@@ -7,7 +7,7 @@ use mir.Val.{SFits, toZ, ofZ}
 use Rattle.whole.specs.Solver.{var}
 use Rattle.whole.specs.Fits.{Within, Held, Leaves, []ʷ, _∷ʷ_, _∷ᶜ_, value-fits, cast-within}
 use Rattle.rules.specs.Streams.{Stream, limit}
-use Rattle.ringside.specs.Meaning.{Near}
+use Rattle.samples.specs.Positions.{Near}
 
 abbrev pub read : ℤ → ℤ
 read z = toZ w32 (ofZ w32 z)

@@ -5,17 +5,12 @@ ghost use Prim.Native.Nat.{_<_};
 ghost use lib.IntN.{pos};
 ghost use lib.Signed.{ltZ};
 ghost use lib.ListN.{length};
-ghost use Rattle.rules.specs.Lists.{first-place};
-ghost use Rattle.rules.specs.Streams.{streams, sample, within, beyond, side};
+ghost use Rattle.rules.specs.Streams.{streams, sample, beyond, side};
 ghost use Rattle.rules.specs.Chain.{leftmost};
 ghost use Rattle.rules.specs.Use.{set-on};
-ghost use Rattle.ringside.specs.Meaning.{stream-of, Near};
-
-// at most so many corners
-pub const MOST: usize = 65536;
-
-// each part lies from -LIMIT to LIMIT
-const LIMIT: i32 = 1_000_000;
+ghost use Rattle.samples.specs.Positions.{Near};
+ghost use Rattle.ringside.specs.Meaning.{stream-of};
+use samples::tests::part_beyond;
 
 // A stream: an east part and a north part.
 pub struct Stream {
@@ -34,39 +29,14 @@ pub fn at(east: &[i32], north: &[i32], i: usize) -> Stream
     }
 }
 
-// A part within the limit.
-fn within(z: i32) -> bool
-    ensures { λ r. ⌜ r ≡ within z ⌝ }
-{
-    if z < -LIMIT {
-        return false;
-    }
-    z <= LIMIT
-}
-
 // A stream with a part beyond the limit.
 pub fn beyond(s: Stream) -> bool
     ensures { λ r. ⌜ r ≡ beyond (stream-of s) ⌝ }
 {
-    if within(s.east) {
-        return !within(s.north);
+    if part_beyond(s.east) {
+        return true;
     }
-    true
-}
-
-// The first place of a stream with a part beyond the limit; the count where there is none.
-pub fn first_beyond(east: &[i32], north: &[i32]) -> usize
-    requires { ⌜ length (now east) ≡ length (now north) ⌝ }
-    ensures { λ r. ⌜ r ≡ first-place beyond (streams (now (east .entry)) (now (north .entry))) ⌝ }
-{
-    let mut i = 0;
-    while i < east.len() {
-        if beyond(at(east, north, i)) {
-            return i;
-        }
-        i += 1;
-    }
-    i
+    part_beyond(s.north)
 }
 
 // The side of r seen on the way from p to q: above zero on the left, below zero on the right.

@@ -18,7 +18,7 @@ use Rattle.rules.specs.Refusals.{Answer, refused, done, output-short, output-af
 use Rattle.rules.specs.Entries.{kept-list, round-answer}
 use Rattle.samples.specs.Positions.{at, Sampled, Listed}
 use Rattle.samples.specs.Samples.{sampled, listed, samples-at, spans-two}
-use Rattle.samples.specs.Tests.{tested-of, then-answer, passed-tests, answer-after, quiet-scratch}
+use Rattle.samples.specs.Tests.{tested-of, then-answer, passed-tests, answer-by, quiet-scratch}
 use Rattle.samples.specs.declared.tests.Tested.{Tested}
 use Rattle.samples.specs.declared.tests.Tested.the-variants as tests
 use Rattle.round.specs.declared.RoundAnswer.{RoundAnswer}
@@ -88,8 +88,7 @@ module _ (es ns : List ℤ) (list : List ℕ) (a : ℤ) (output scratch : List �
   by-tests : {t : Tested} → tested-of (round-tests es ns list a (length scratch)) ≡ t → round-answer es ns list a output scratch ≡ then-answer t (answer-of said-here output)
   unfolding round-answer
   by-tests e =
-      answer-after (round-tests es ns list a (length scratch)) (output-short (ltb (length output) (length (kept-list said-here))) ∷ []) said-here
-      ∙ ap (λ (x : Tested). then-answer x (answer-of said-here output)) e
+      answer-by (round-tests es ns list a (length scratch)) (output-short (ltb (length output) (length (kept-list said-here))) ∷ []) said-here e
 
   pub refused-promise : {k p : ℕ} → tested-of (round-tests es ns list a (length scratch)) ≡ tests.Refused k p
       → RoundPromise es ns list a output scratch (answer.Refused k p) output scratch

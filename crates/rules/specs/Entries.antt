@@ -113,6 +113,11 @@ easts r = map (λ s. s .east) r
 abbrev pub norths : List Stream → List ℤ
 norths r = map (λ s. s .north) r
 
+-- an answer whose list lies in the outputs says its count
+abbrev pub counted : Answer (List Stream) → Answer ℕ
+counted (refused number place) = refused number place
+counted (done r) = done (length r)
+
 unfoldable pub ring-answer : List ℤ → List ℤ → List ℤ → List ℤ → List ℕ → Answer (List Stream)
 ring-answer es ns east north scratch =
     let r = ring (streams es ns) in

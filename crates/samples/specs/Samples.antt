@@ -1,6 +1,6 @@
 -- The laws of samples: what the two lists say as streams, and what the test for parts beyond the limit shows of them.
 -- Assumes nothing.
-use mathlib.Core.Path.{_≡_, refl, sym, ap, ap₂, _∙_, fun-ext}
+use mathlib.Core.Path.{_≡_, refl, sym, ap, ap₂, _∙_, fun-ext, subst}
 use mathlib.Core.Bool.{Bool, true, false, not, _&&_, _||_, false≢true}
 use mathlib.Core.List.{List, [], _∷_, map, map-map}
 use Prim.Native.Nat.{ℕ, zero, suc, _≤_, _<_}
@@ -8,7 +8,7 @@ use native.Mathlib.Omega.{arith}
 use lib.IntN.{ℤ, pos, negsuc, natAbs, negℤ}
 use lib.Signed.{leZ, ltZ}
 use lib.Dec.{leb, ltb}
-use lib.ListN.{length, getD, List·getD-eq-default}
+use lib.ListN.{length, getD}
 use borrow.Author.Tests.{leb-true, le-leb, lt-leb, leb-false, ltb-true, ltb-false, lt-ltb, le-ltb}
 use Rattle.whole.specs.Laws.{leZ-not-ltZ}
 use Rattle.whole.specs.Solver.{var, ⊝_}
@@ -16,6 +16,7 @@ use Rattle.whole.specs.Fits.{Within, []ʷ, _∷ʷ_, value-within}
 use Rattle.rules.specs.Lists.{some-of, first-place}
 use Rattle.rules.specs.Streams.{Stream, stream, streams, sample, limit, within, beyond, mirrored}
 use Rattle.rules.specs.Bridge.{spans}
+use Rattle.rules.specs.Entries.{easts, norths}
 use Rattle.samples.specs.Positions.{faced, at, east-of, easts-span, Near, Sampled, Listed}
 use Rattle.samples.specs.Scans.{at-place-in, some-by-place, none-passes}
 
@@ -38,6 +39,20 @@ sample-at (e ∷ es) (n ∷ ns) h (suc i) = sample-at es ns (omega arith) i
 -- so sample numbers stand for the same positions
 pub samples-at : (es ns : List ℤ) → length es ≡ length ns → sample (streams es ns) ≡ at es ns false
 samples-at es ns h = fun-ext (sample-at es ns h)
+
+-- all easts and all norths are those of the lists
+pub streams-easts : (es ns : List ℤ) → length es ≡ length ns → easts (streams es ns) ≡ es
+unfolding streams
+streams-easts [] ns h = refl
+streams-easts (e ∷ es) [] h = absurd (omega arith)
+streams-easts (e ∷ es) (n ∷ ns) h = ap (λ (l : List ℤ). e ∷ l) (streams-easts es ns (omega arith))
+
+pub streams-norths : (es ns : List ℤ) → length es ≡ length ns → norths (streams es ns) ≡ ns
+unfolding streams
+streams-norths [] [] h = refl
+streams-norths [] (n ∷ ns) h = absurd (omega arith)
+streams-norths (e ∷ es) [] h = absurd (omega arith)
+streams-norths (e ∷ es) (n ∷ ns) h = ap (λ (l : List ℤ). n ∷ l) (streams-norths es ns (omega arith))
 
 -- on the lower side norths are negated
 pub lower-at : (es ns : List ℤ) (i : ℕ) → at es ns true i ≡ mirrored (at es ns false i)
@@ -63,11 +78,20 @@ unfolding within
 beyond-above (pos n) e = lt-not-le limit n
 beyond-above (negsuc n) e = rw (le-leb (suc n) limit (omega (arith, ltb-false 999999 n e)))
 
+-- a stream is beyond the limit by one of its parts
+pub beyond-parts : (s : Stream) → beyond s ≡ (not (within (s .east)) || not (within (s .north)))
+unfolding beyond
+beyond-parts s = go (within (s .east))
+  where
+    go : (b : Bool) → not (b && within (s .north)) ≡ (not b || not (within (s .north)))
+    go true = refl
+    go false = refl
+
 within-limit : (z : ℤ) → within z ≡ true → Within z limit
 unfolding within
 within-limit z e = record { within = leb-true (natAbs z) limit e }
 
-both-within : (s : Stream) → beyond s ≡ false → Near s
+pub both-within : (s : Stream) → beyond s ≡ false → Near s
 unfolding beyond
 both-within s = go (within (s .east)) (within (s .north)) refl refl
   where
@@ -80,29 +104,24 @@ both-within s = go (within (s .east)) (within (s .north)) refl refl
 zero-near : Near (stream (pos 0) (pos 0))
 zero-near = record { east-near = record { within = omega arith }; north-near = record { within = omega arith } }
 
-module _ (es ns : List ℤ) (h : length es ≡ length ns) where
-  all-near : some-of beyond (streams es ns) ≡ false → (i : ℕ) → Near (at es ns false i)
-  all-near e i = go (ltb i (length es)) refl
-    where
-      xs : List Stream
-      xs = streams es ns
+-- where no stream of a list is beyond, each is near, also what stands for one past the end
+pub sample-near : (xs : List Stream) → some-of beyond xs ≡ false → (i : ℕ) → Near (sample xs i)
+unfolding some-of
+sample-near [] e i = zero-near
+sample-near (x ∷ xs) e i = go (beyond x) refl e i (λ f j. sample-near xs f j)
+  where
+    go : (b : Bool) → beyond x ≡ b → (b || some-of beyond xs) ≡ false → (i : ℕ) → (some-of beyond xs ≡ false → (j : ℕ) → Near (sample xs j))
+        → Near (sample (x ∷ xs) i)
+    go true p f i r = absurd (false≢true (sym f))
+    go false p f zero r = both-within x p
+    go false p f (suc i) r = r f i
 
-      near-sample : Near (sample xs i) → Near (at es ns false i)
-      near-sample n = rw (sample-at es ns h i) at n
-
-      go : (b : Bool) → ltb i (length es) ≡ b → Near (at es ns false i)
-      go true t =
-          near-sample
-          (both-within (sample xs i)
-          (none-passes beyond xs e (sample xs i)
-          (at-place-in xs i (stream (pos 0) (pos 0)) (omega (arith, streams-length es ns h, ltb-true i (length es) t)))))
-      go false t =
-          near-sample
-          (rw (List·getD-eq-default xs (stream (pos 0) (pos 0)) {n = i} (omega (arith, streams-length es ns h, ltb-false i (length es) t))) zero-near)
-
-  -- where no part is beyond the limit
-  pub sampled : some-of beyond (streams es ns) ≡ false → Sampled es ns
-  sampled e = record { even = h; east-near = λ i. all-near e i .east-near; north-near = λ i. all-near e i .north-near }
+-- where no part is beyond the limit
+pub sampled : (es ns : List ℤ) → length es ≡ length ns → some-of beyond (streams es ns) ≡ false → Sampled es ns
+sampled es ns h e = record { even = h; east-near = λ i. all-near i .east-near; north-near = λ i. all-near i .north-near }
+  where
+    all-near : (i : ℕ) → Near (at es ns false i)
+    all-near i = subst Near (sample-at es ns h i) (sample-near (streams es ns) e i)
 
 faced-near : (lower : Bool) {z : ℤ} → Within z limit → Within (faced lower z) limit
 faced-near false h = h
@@ -111,6 +130,10 @@ faced-near true h = value-within (h ∷ʷ []ʷ) (⊝ var 0)
 -- every position is within the limit, on either side
 pub near-at : {es ns : List ℤ} → Sampled es ns → (lower : Bool) (i : ℕ) → Near (at es ns lower i)
 near-at s lower i = record { east-near = s .east-near i; north-near = faced-near lower (s .north-near i) }
+
+-- and so is a stream that was read at a place
+pub read-near : {es ns : List ℤ} → Sampled es ns → (i : ℕ) {s : Stream} → s ≡ sample (streams es ns) i → Near s
+read-near {es} {ns} p i e = subst Near (sym (e ∙ sample-at es ns (p .even) i)) (near-at p false i)
 
 -- a part is beyond the limit where the first place of one is inside
 module _ (es ns : List ℤ) (h : length es ≡ length ns) {p : ℕ} (e : p ≡ first-place beyond (streams es ns)) where
@@ -141,12 +164,6 @@ some-of-map f g (x ∷ xs) = ap (λ (b : Bool). f (g x) || b) (some-of-map f g x
 pub spans-easts : (a : ℤ) (xs : List Stream) → spans a xs ≡ easts-span a (map (λ s. s .east) xs)
 unfolding spans easts-span
 spans-easts a xs = sym (ap₂ _&&_ (some-of-map (λ e. leZ e a) (λ s. s .east) xs) (some-of-map (λ e. ltZ a e) (λ s. s .east) xs))
-
-streams-easts : (es ns : List ℤ) → length es ≡ length ns → map (λ s. s .east) (streams es ns) ≡ es
-unfolding streams
-streams-easts [] ns h = refl
-streams-easts (e ∷ es) [] h = absurd (omega arith)
-streams-easts (e ∷ es) (n ∷ ns) h = ap (λ (l : List ℤ). e ∷ l) (streams-easts es ns (omega arith))
 
 -- by all the easts, and by the listed ones
 pub samples-span : (a : ℤ) (es ns : List ℤ) → length es ≡ length ns → spans a (streams es ns) ≡ easts-span a es

@@ -3,16 +3,19 @@
 use mathlib.Core.Path.{_≡_, refl, sym, ap, _∙_}
 use mathlib.Core.Bool.{Bool, true, false, cond, not, _&&_, _||_}
 use mathlib.Core.List.{List, [], _∷_, _++_}
-use Prim.Native.Nat.{ℕ, _+_, _*_}
+use Prim.Native.Nat.{ℕ, _+_, _*_, _≤_}
 use native.Mathlib.Omega.{arith}
 use lib.IntN.{ℤ}
 use lib.Dec.{T, ltb, eqb}
 use lib.ListN.{length}
+use borrow.Author.Tests.{eqb-true, ltb-false, not-false}
 use Rattle.rules.specs.Lists.{zeros}
-use Rattle.rules.specs.Streams.{streams}
-use Rattle.rules.specs.Refusals.{Answer, refused, Test, test, unless, lengths-differ, too-many, part-beyond}
+use Rattle.rules.specs.Streams.{most}
+use Rattle.rules.specs.Refusals.{Answer, refused, Test, test, unless, ring-tests}
 use Rattle.samples.specs.declared.tests.Tested.{Tested}
 use Rattle.samples.specs.declared.tests.Tested.the-variants.{Passed, Refused}
+use Rattle.samples.specs.Positions.{Sampled}
+use Rattle.samples.specs.Samples.{sampled}
 
 abbrev pub tested-of : List Test → Tested
 tested-of [] = Passed
@@ -20,8 +23,7 @@ tested-of (t ∷ ts) = cond (t .holds) (Refused (t .number) (t .place)) (tested-
 
 -- the tests of samples with so many words of scratch: 1, 2, 3, 4
 abbrev pub sample-tests : List ℤ → List ℤ → ℕ → List Test
-sample-tests es ns room =
-    lengths-differ es ns ∷ too-many (length es) ∷ part-beyond (streams es ns) ∷ test 4 0 (ltb room (16 * length es + 64)) ∷ []
+sample-tests es ns room = ring-tests es ns ++ (test 4 0 (ltb room (16 * length es + 64)) ∷ [])
 
 -- ---- all of them
 
@@ -50,6 +52,13 @@ passed-tests (t ∷ ts) e = go (t .holds) refl e (λ f. passed-tests ts f)
     go true p f r = let z : _≡_ {A = ℕ} 0 1 = cc in absurd (omega arith)
     go false p f r = (p, r f)
 
+-- two lists that pass 1, 2 and 3, before other tests
+pub sampled-few : (es ns : List ℤ) (ts : List Test) → None-hold (ring-tests es ns ++ ts) → Sampled es ns × (length es ≤ most)
+sampled-few es ns ts n = (
+  sampled es ns (eqb-true (length es) (length ns) (not-false (eqb (length es) (length ns)) (n .0))) (n .1 .1 .0),
+  ltb-false most (length es) (n .1 .0),
+)
+
 -- ---- tests after others
 
 -- what comes after passed tests; a refusal stays
@@ -61,7 +70,7 @@ abbrev pub then-answer : {A : Type 0} → Tested → Answer A → Answer A
 then-answer Passed x = x
 then-answer (Refused k p) x = refused k p
 
-pub tested-after : (ts us : List Test) → tested-of (ts ++ us) ≡ then-tested (tested-of ts) (tested-of us)
+tested-after : (ts us : List Test) → tested-of (ts ++ us) ≡ then-tested (tested-of ts) (tested-of us)
 tested-after [] us = refl
 tested-after (t ∷ ts) us = go (t .holds) (tested-after ts us)
   where
@@ -80,6 +89,21 @@ answer-after (t ∷ ts) us x = go (t .holds) (answer-after ts us x)
         ≡ then-answer (cond b (Refused (t .number) (t .place)) (tested-of ts)) (unless us x)
     go true e = refl
     go false e = e
+
+-- by what was said of the first of them
+pub tested-by : (ts us : List Test) {t : Tested} → tested-of ts ≡ t → tested-of (ts ++ us) ≡ then-tested t (tested-of us)
+tested-by ts us e = tested-after ts us ∙ ap (λ (t : Tested). then-tested t (tested-of us)) e
+
+pub answer-by : {A : Type 0} (ts us : List Test) (x : A) {t : Tested} → tested-of ts ≡ t → unless (ts ++ us) x ≡ then-answer t (unless us x)
+answer-by ts us x e = answer-after ts us x ∙ ap (λ (t : Tested). then-answer t (unless us x)) e
+
+-- one test before others
+module _ {A : Type 0} (t : Test) (ts : List Test) (x : A) where
+  pub refuses : t .holds ≡ true → unless (t ∷ ts) x ≡ refused (t .number) (t .place)
+  refuses e = rw e
+
+  pub passes : t .holds ≡ false → unless (t ∷ ts) x ≡ unless ts x
+  passes e = rw e
 
 -- no number among them is 5 or 18, after which scratch is zero
 abbrev pub quiet : List Test → Bool

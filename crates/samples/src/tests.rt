@@ -6,6 +6,7 @@ ghost use lib.Dec.{leb, ltb};
 ghost use lib.ListN.{length};
 ghost use Rattle.rules.specs.Lists.{first-place};
 ghost use Rattle.rules.specs.Streams.{within, beyond, streams};
+ghost use Rattle.rules.specs.Refusals.{ring-tests};
 ghost use Rattle.samples.specs.Positions.{Listed, east-of, easts-span};
 ghost use Rattle.samples.specs.Tests.{tested-of, sample-tests};
 use super::position::east;
@@ -16,13 +17,14 @@ pub enum Tested {
     Refused { number: u32, place: usize },
 }
 
-// at most so many samples
-const MOST: usize = 65536;
+// at most so many samples, or corners
+pub const MOST: usize = 65536;
 
 // each part lies from -LIMIT to LIMIT
 const LIMIT: i32 = 1000000;
 
-fn part_beyond(x: i32) -> bool
+// A part beyond the limit.
+pub fn part_beyond(x: i32) -> bool
     ensures { λ r. ⌜ r ≡ not (within x) ⌝ }
 {
     if x < -LIMIT {
@@ -49,9 +51,9 @@ pub fn first_beyond(e: &[i32], n: &[i32]) -> usize
     i
 }
 
-// The tests of samples, with so many words of scratch: 1, 2, 3, 4.
-pub fn of_samples(e: &[i32], n: &[i32], room: usize) -> Tested
-    ensures { λ r. ⌜ r ≡ tested-of (sample-tests (now (e .entry)) (now (n .entry)) room) ⌝ }
+// The tests of two lists of parts: 1, 2, 3.
+pub fn of_lists(e: &[i32], n: &[i32]) -> Tested
+    ensures { λ r. ⌜ r ≡ tested-of (ring-tests (now (e .entry)) (now (n .entry))) ⌝ }
 {
     let count = e.len();
     if count != n.len() {
@@ -70,13 +72,25 @@ pub fn of_samples(e: &[i32], n: &[i32], room: usize) -> Tested
     if place < count {
         return Tested::Refused { number: 3, place };
     }
-    if room < 16 * count + 64 {
-        return Tested::Refused {
-            number: 4,
-            place: 0,
-        };
-    }
     Tested::Passed
+}
+
+// The tests of samples, with so many words of scratch: 1, 2, 3, 4.
+pub fn of_samples(e: &[i32], n: &[i32], room: usize) -> Tested
+    ensures { λ r. ⌜ r ≡ tested-of (sample-tests (now (e .entry)) (now (n .entry)) room) ⌝ }
+{
+    match of_lists(e, n) {
+        Tested::Refused { number, place } => Tested::Refused { number, place },
+        Tested::Passed => {
+            if room < 16 * e.len() + 64 {
+                return Tested::Refused {
+                    number: 4,
+                    place: 0,
+                };
+            }
+            Tested::Passed
+        }
+    }
 }
 
 // The first place of the list with a number not below the count, or the list's length where there is none.

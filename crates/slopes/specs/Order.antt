@@ -15,7 +15,7 @@ use Rattle.rules.specs.Picker.{ranked}
 use Rattle.rules.specs.Round.{Slope, slope-le}
 use Rattle.rounds.specs.Slopes.{Up, slope-order}
 use Rattle.ranks.specs.Counts.{count, not-by, count-map, count-not, count-le-length, counted}
-use Rattle.ranks.specs.Ranks.{Order, OrderOn, Held, HasRank, Level, under, upto, over, by-key, rank-of-key, rank-of-item, rank-among-below, rank-among-above, rank-by-counts-on}
+use Rattle.ranks.specs.Ranks.{OrderOn, Held, item-of, held-order, HasRank, Level, under, upto, over, rank-of-key, rank-of-item, rank-among-below, rank-among-above, rank-by-counts-on}
 
 -- ---- picking by a pivot, where the test is an order among the items that P holds of
 
@@ -29,16 +29,6 @@ those-map {A} {B} f g (x ∷ xs) = go (f (g x)) (those-map f g xs)
     go false e = e
 
 module _ {A : Type 0} {P : A → Type 0} {le : A → A → Bool} (o : OrderOn P le) where
-  abbrev item-of : Held P → A
-  item-of h = h .item
-
-  held-order : Order (by-key item-of le)
-  held-order =
-      record {
-        total = λ x y. o .total (x .item) (y .item) (x .holds) (y .holds);
-        trans = λ x y z. o .trans (x .item) (y .item) (z .item) (x .holds) (y .holds) (z .holds);
-      }
-
   -- what is shown of items that P holds of is shown of a list of which each item is one
   held-list : (Q : List A → Type 0) → ((hs : List (Held P)) → Q (map item-of hs)) → (xs : List A) → ((x : A) → List·Memᴰ x xs → P x) → Q xs
   held-list Q q [] all = q []
@@ -59,7 +49,7 @@ module _ {A : Type 0} {P : A → Type 0} {le : A → A → Bool} (o : OrderOn P 
         go : (hs : List (Held P)) → HasRank le r (those (under le p) (map item-of hs)) v → HasRank le r (map item-of hs) v
         go hs h =
             rank-of-key item-of le {v = value}
-            (rank-among-below held-order pivot
+            (rank-among-below (held-order o) pivot
             (rank-of-item item-of le {v = value} (subst (λ (l : List A). HasRank le r l v) (those-map (under le p) item-of hs) h)))
 
     pub rank-above-on : count (upto le p) xs < r → HasRank le (r - count (upto le p) xs) (those (over le p) xs) v → HasRank le r xs v
@@ -72,7 +62,7 @@ module _ {A : Type 0} {P : A → Type 0} {le : A → A → Bool} (o : OrderOn P 
         go hs c h =
             let e = count-map (upto le p) item-of hs in
             rank-of-key item-of le {v = value}
-            (rank-among-above held-order pivot (subst (λ (n : ℕ). n < r) e c)
+            (rank-among-above (held-order o) pivot (subst (λ (n : ℕ). n < r) e c)
             (rank-of-item item-of le {v = value}
             (subst (λ (n : ℕ). HasRank le (r - n) (map item-of (those (λ x. over le p (x .item)) hs)) v) e
             (subst (λ (l : List A). HasRank le (r - count (upto le p) (map item-of hs)) l v) (those-map (over le p) item-of hs) h))))

@@ -31,11 +31,6 @@ with-room east north (done xs) = unless (ring-short east north xs ∷ []) xs
 unfoldable pub samples-answer : List ℕ → List ℤ → List ℤ → Answer (List Stream)
 samples-answer bs east north = with-room east north (samples bs)
 
--- how many samples
-abbrev pub counted : Answer (List Stream) → Answer ℕ
-counted (refused k p) = refused k p
-counted (done xs) = done (length xs)
-
 abbrev pub read-as : Read → Answer ℕ
 read-as (read.Samples n) = done n
 read-as (read.Refused k p) = refused k p

@@ -5,11 +5,11 @@ ghost use Prim.Native.Nat.{_+_, _≤_, _<_};
 ghost use lib.ListN.{length, drop};
 ghost use Rattle.rules.specs.Lists.{first-place};
 ghost use Rattle.rules.specs.Refusals.{output-after};
-ghost use Rattle.rules.specs.Entries.{easts, norths};
+ghost use Rattle.rules.specs.Entries.{easts, norths, counted};
 ghost use Rattle.rules.specs.Program.{samples as samples-of, unsigned, negated, not-negated, number, both, line};
 ghost use Rattle.text.specs.Cuts.{is};
 ghost use Rattle.text.specs.Digits.{digits-after};
-ghost use Rattle.text.specs.Meaning.{samples-answer, counted, read-as, unsigned-as, Small, number-as, line-as, NextLine, Fit};
+ghost use Rattle.text.specs.Meaning.{samples-answer, read-as, unsigned-as, Small, number-as, line-as, NextLine, Fit};
 
 const NEWLINE: u8 = 10;
 

@@ -11,7 +11,7 @@ use lib.ListN.{length, getD}
 use Rattle.rules.specs.Streams.{Stream, stream, streams, sample, most}
 use Rattle.rules.specs.Chain.{UpperChain}
 use Rattle.outline.specs.Under.{Under}
-use Rattle.ringside.specs.Meaning.{Near}
+use Rattle.samples.specs.Positions.{Near}
 use Rattle.stack.specs.Places.{listed}
 use Rattle.stack.specs.Stack.{With, Before, Upto, Stacked, stays}
 use Rattle.stack.specs.Hills.{Hill}

@@ -11,8 +11,8 @@ use lib.Seq.{getD-append-add}
 use Rattle.whole.specs.Solver.{var, ⊝_}
 use Rattle.whole.specs.Fits.{[]ʷ, _∷ʷ_, value-within}
 use Rattle.rules.specs.Streams.{Stream, stream, streams, sample}
-use Rattle.ringside.specs.Meaning.{Near}
-use Rattle.ringside.specs.Samples.{streams-length}
+use Rattle.samples.specs.Positions.{Near}
+use Rattle.samples.specs.Samples.{streams-length}
 use Rattle.walk.specs.Both.{both, count, facing, corner-at, Corners}
 
 module _ (es ns fs ms : List ℤ) (even : length es ≡ length ns) where

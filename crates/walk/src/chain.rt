@@ -4,7 +4,8 @@
 ghost use mathlib.Core.Path.{_≡_};
 ghost use Prim.Native.Nat.{_≤_, _<_};
 ghost use lib.ListN.{length};
-ghost use Rattle.ringside.specs.Meaning.{stream-of, Near};
+ghost use Rattle.samples.specs.Positions.{Near};
+ghost use Rattle.ringside.specs.Meaning.{stream-of};
 ghost use Rattle.stack.specs.Stack.{stays};
 ghost use Rattle.walk.specs.Both.{Corners, Rings, count, corner-at, listed-at, Stand, Coming, Settled, Next, Hides, Taken, Chained};
 use crate::corners::listed;

@@ -1,45 +1,43 @@
 -- `join::join` meets its contract: each return is the rules' tests in the order in which the code makes them.
 -- Assumes nothing.
-use mathlib.Core.Path.{_≡_, refl, sym, ap, _∙_, subst}
-use mathlib.Core.List.{List, [], _∷_}
+use mathlib.Core.Path.{_≡_, refl, sym, _∙_, subst}
+use mathlib.Core.List.{List}
 use native.Mathlib.Omega.{arith}
 use borrow.Author.Needs.{needs}
-use borrow.Author.Tests.{lt-ltb, le-ltb}
 use denote.Ref.{now}
-use Rattle.rules.specs.Streams.{Stream, most}
-use Rattle.rules.specs.Refusals.{Answer, done, too-many, scratch-short}
-use Rattle.rules.specs.Entries.{ring-short, join-answer}
-use Rattle.ringside.specs.Tests.{refuses, passes}
-use Rattle.walk.specs.Both.{count}
-use Rattle.closing.specs.Meaning.{unless-short, Outcome, outcome-refused}
-use Rattle.join.specs.Meaning.{tested-as, ring-verdict}
-use Rattle.join.specs.Verdict.{first-refused, second-refused, many-refused, scratch-refused, all-pass, verdict-sound, two-sound, verdict-number}
+use Rattle.rules.specs.Streams.{Stream}
+use Rattle.rules.specs.Refusals.{Answer}
+use Rattle.closing.specs.Meaning.{Outcome, outcome-refused}
+use Rattle.samples.specs.Tests.{tested-of, quiet-number}
+use Rattle.samples.specs.declared.tests.Tested.the-variants.{Passed}
+use Rattle.envelope.specs.Tests.{alone-tests, sound}
+use Rattle.join.specs.Verdict.{first-refused, second-refused, many-refused, scratch-refused, all-pass, two-sound}
 use Rattle.join.proofs.join.Statement.{statement}
 use Rattle.join.proofs.join.Tie as tie
 
 returns : tie.Need-returns
 returns c =
     let a = c .before .before .before .before .before .args in
-    let v = sym (c .before .before .before .test-ring .ensures) ∙ ap tested-as (c .before .number .given .1) in
+    let v = sym (c .before .before .before .of-ring .ensures) ∙ c .before .number .given .1 in
     outcome-refused (c .before .number .given .0 .0) (c .before .number .given .0 .1 .0)
     (first-refused (now (a .east)) (now (a .north)) (now (a .east2)) (now (a .north2)) (now (a .out-east)) (now (a .out-north)) (now (a .scratch)) v)
-    (verdict-number (now (a .east)) (now (a .north)) v)
+    (quiet-number (alone-tests (now (a .east)) (now (a .north))) tt v)
 
 -- the first ring passed, and the second
-first : (c : tie.After-enum-told) → let a = c .before .before .before .before .args in ring-verdict (now (a .east)) (now (a .north)) ≡ done tt
-first c = sym (c .before .before .test-ring .ensures) ∙ ap tested-as (c .enum-told .given .1)
+first : (c : tie.After-enum-told) → let a = c .before .before .before .before .args in tested-of (alone-tests (now (a .east)) (now (a .north))) ≡ Passed
+first c = sym (c .before .before .of-ring .ensures) ∙ c .enum-told .given .1
 
 second : (c : tie.After-enum-told2) → let a = c .before .before .before .before .before .before .before .args in
-    ring-verdict (now (a .east2)) (now (a .north2)) ≡ done tt
-second c = sym (c .before .before .test-ring2 .ensures) ∙ ap tested-as (c .enum-told2 .given .1)
+    tested-of (alone-tests (now (a .east2)) (now (a .north2))) ≡ Passed
+second c = sym (c .before .before .of-ring2 .ensures) ∙ c .enum-told2 .given .1
 
 returns-2 : tie.Need-returns-2
 returns-2 c =
     let a = c .before .before .before .before .before .before .before .before .args in
-    let v = sym (c .before .before .before .test-ring2 .ensures) ∙ ap tested-as (c .before .number2 .given .1) in
+    let v = sym (c .before .before .before .of-ring2 .ensures) ∙ c .before .number2 .given .1 in
     outcome-refused (c .before .number2 .given .0 .0) (c .before .number2 .given .0 .1 .0)
     (second-refused (now (a .east)) (now (a .north)) (now (a .east2)) (now (a .north2)) (now (a .out-east)) (now (a .out-north)) (now (a .scratch)) (first (c .before .before .before .before)) v)
-    (verdict-number (now (a .east2)) (now (a .north2)) v)
+    (quiet-number (alone-tests (now (a .east2)) (now (a .north2))) tt v)
 
 returns-3 : tie.Need-returns-3
 returns-3 c =
@@ -59,7 +57,7 @@ write-join-requires : tie.Need-write-join-requires
 write-join-requires c κs =
     let at = c .before .before .before .before .before in
     let a = at .before .before .before .before .before .before .before .args in (
-      two-sound (verdict-sound (now (a .east)) (now (a .north)) (first (at .before .before .before))) (verdict-sound (now (a .east2)) (now (a .north2)) (second at))
+      two-sound (sound (now (a .east)) (now (a .north)) (first (at .before .before .before))) (sound (now (a .east2)) (now (a .north2)) (second at))
           (c .before .before .before .before .if1 .left),
       (omega arith),
     )

@@ -9,7 +9,7 @@ use Rattle.rules.specs.Streams.{Stream, sample}
 use Rattle.rules.specs.Chain.{leftmost}
 use Rattle.rules.specs.Entries.{record-corners}
 use Rattle.neighbours.specs.Recognised.{recognised}
-use Rattle.ringside.specs.Meaning.{Near}
+use Rattle.samples.specs.Positions.{Near}
 use Rattle.ringside.specs.Words.{read, held}
 use Rattle.envelope.specs.Walks.{round-from, few-pass, two-pass, more-pass}
 use Rattle.reader.proofs.is_envelope.Statement.{statement}

@@ -7,7 +7,8 @@ use borrow.Author.Needs.{needs}
 use lib.Signed.{ltZ}
 use Rattle.rules.specs.Entries.{record-corners}
 use Rattle.neighbours.specs.Test.{turns}
-use Rattle.ringside.specs.Meaning.{stream-of, Near}
+use Rattle.samples.specs.Positions.{Near}
+use Rattle.ringside.specs.Meaning.{stream-of}
 use Rattle.ringside.specs.Words.{held}
 use Rattle.reader.specs.Meaning.{turns-at}
 use Rattle.reader.proofs.turns.Statement.{statement}

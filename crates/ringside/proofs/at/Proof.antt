@@ -7,7 +7,7 @@ use mir.Facts.{toZ-ofZ}
 use lib.IntN.{pos}
 use lib.ListN.{getD}
 use Rattle.rules.specs.Streams.{stream}
-use Rattle.ringside.specs.Samples.{streams-sample}
+use Rattle.samples.specs.Samples.{sample-at}
 use Rattle.ringside.proofs.at.Statement.{statement}
 use Rattle.ringside.proofs.at.Tie as tie
 
@@ -18,7 +18,7 @@ returns c =
     ap₂ stream
     (toZ-ofZ {w = w32} {z = getD (a .east .now) i (pos 0)} (record { sfits = c .before .t6 .given }))
     (toZ-ofZ {w = w32} {z = getD (a .north .now) i (pos 0)} (record { sfits = c .t9 .given })) ∙
-    sym (streams-sample (a .east .now) (a .north .now) (c .before .before .pre .0) i)
+    sym (sample-at (a .east .now) (a .north .now) (c .before .before .pre .0) i)
 
 pub at-spec : {M : Type 1} → statement M
 at-spec = tie.close (tie.spec (λ c. search needs) (λ c. search needs) (λ c. search needs) (λ c. search needs) returns)

@@ -1,31 +1,31 @@
 -- `ringside::beyond` meets its contract.
 -- Assumes nothing.
-use mathlib.Core.Path.{sym, ap, _∙_}
-use mathlib.Core.Bool.{Bool, not, _&&_}
+use mathlib.Core.Path.{_≡_, sym, ap, _∙_}
+use mathlib.Core.Bool.{Bool, not, _||_}
 use borrow.Author.Needs.{needs}
+use lib.IntN.{ℤ}
 use mir.Syntax.{w32}
 use mir.Facts.{toZ-ofZ}
 use Rattle.rules.specs.Streams.{within, beyond}
+use Rattle.samples.specs.Samples.{beyond-parts}
+use Rattle.ringside.specs.Meaning.{stream-of}
 use Rattle.ringside.proofs.beyond.Statement.{statement}
 use Rattle.ringside.proofs.beyond.Tie as tie
 
-returns : tie.Need-returns
-unfolding beyond
-returns c =
-    let s = c .before .before .before .before .before .args .s in
-    let e = toZ-ofZ {w = w32} {z = s .east} (record { sfits = c .before .before .before .before .struct-told .given .0 .1 }) in
-    let n = toZ-ofZ {w = w32} {z = s .north} (record { sfits = c .before .struct-told2 .given .1 .0 .1 }) in
-    ap not
-    (c .within2 .ensures ∙
-    ap within n ∙
-    ap (λ (b : Bool). b && within (s .north)) (sym (c .before .before .if1 .taken) ∙ c .before .before .before .within .ensures ∙ ap within e))
+-- by what was said of the east part
+by-east : (c : tie.After-part-beyond) {b : Bool} → c .part-beyond .result ≡ b → let s = c .before .before .args .s in
+    beyond (stream-of s) ≡ (b || not (within (s .north)))
+by-east c e =
+    let s = c .before .before .args .s in
+    let is = toZ-ofZ {w = w32} {z = s .east} (record { sfits = c .before .struct-told .given .0 .1 }) in
+    beyond-parts (stream-of s) ∙
+    ap (λ (b : Bool). b || not (within (s .north))) (sym (c .part-beyond .ensures ∙ ap (λ (z : ℤ). not (within z)) is) ∙ e)
 
 returns-2 : tie.Need-returns-2
-unfolding beyond
 returns-2 c =
-    let s = c .before .before .before .args .s in
-    let e = toZ-ofZ {w = w32} {z = s .east} (record { sfits = c .before .before .struct-told .given .0 .1 }) in
-    ap (λ (b : Bool). not (b && within (s .north))) (sym (c .if1 .left) ∙ c .before .within .ensures ∙ ap within e)
+    let s = c .before .before .before .before .before .args .s in
+    let is = toZ-ofZ {w = w32} {z = s .north} (record { sfits = c .before .struct-told2 .given .1 .0 .1 }) in
+    c .part-beyond2 .ensures ∙ ap (λ (z : ℤ). not (within z)) is ∙ sym (by-east (c .before .before .before) (c .before .before .if1 .left))
 
 pub beyond-spec : {M : Type 1} → statement M
-beyond-spec = tie.close (tie.spec (λ c κs. search needs) (λ c κs. search needs) returns returns-2)
+beyond-spec = tie.close (tie.spec (λ c κs. search needs) (λ c. sym (by-east (c .before) (c .if1 .taken))) (λ c κs. search needs) returns-2)

@@ -11,7 +11,7 @@ use lib.ListN.{length}
 use borrow.Author.Tests.{not-true, not-false}
 use Rattle.rules.specs.Streams.{Stream, streams, side}
 use Rattle.ringside.specs.Meaning.{stream-of}
-use Rattle.ringside.specs.Samples.{streams-length, read-near}
+use Rattle.samples.specs.Samples.{streams-length, read-near}
 use Rattle.envelope.specs.Walks.{inside-from, inside-more, inside-end}
 use Rattle.envelope.proofs.cover.inside.Statement.{statement}
 use Rattle.envelope.proofs.cover.inside.Tie as tie

@@ -12,7 +12,7 @@ use Rattle.rules.specs.Streams.{Stream, streams, sample}
 use Rattle.rules.specs.Chain.{leftmost}
 use Rattle.rules.specs.Use.{envelope}
 use Rattle.neighbours.specs.Recognised.{recognised}
-use Rattle.ringside.specs.Samples.{streams-length, read-near}
+use Rattle.samples.specs.Samples.{streams-length, read-near}
 use Rattle.ringside.specs.Words.{read, held}
 use Rattle.envelope.specs.Walks.{round-from, few-pass, two-pass, more-pass}
 use Rattle.envelope.proofs.test.is_envelope.Statement.{statement}

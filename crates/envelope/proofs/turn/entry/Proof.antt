@@ -8,7 +8,7 @@ use native.Mathlib.Omega.{arith}
 use lib.ListN.{length}
 use Rattle.rules.specs.Streams.{Stream, streams, sample}
 use Rattle.rules.specs.Chain.{leftmost}
-use Rattle.ringside.specs.Samples.{streams-length}
+use Rattle.samples.specs.Samples.{streams-length}
 use Rattle.envelope.specs.Firsts.{First, nearer-entry, entry-orders, first-one, first-taken, first-left}
 use Rattle.envelope.specs.Turns.{entered-at}
 use Rattle.envelope.proofs.turn.entry.Statement.{statement}

@@ -1,22 +1,23 @@
--- `envelope::turn::turn_about` meets its contract: each return is the rules' tests in the order in which the code makes them, and the outputs hold
--- the parts of the ring turned about, from the place of entry on. Assumes nothing.
+-- `envelope::turn::turn_about` meets its contract: the tests refuse, or the outputs hold the parts of the ring turned about, from the place of entry on.
+-- Assumes nothing.
 use mathlib.Core.Path.{_≡_, refl, sym, ap, ap₂, _∙_}
-use mathlib.Core.Bool.{Bool, true, not, _||_}
+use mathlib.Core.Bool.{Bool, _||_}
 use mathlib.Core.List.{List, [], _∷_}
 use native.Mathlib.Omega.{arith}
 use lib.IntN.{ℤ}
 use lib.Dec.{ltb}
 use lib.ListN.{length}
 use borrow.Author.Needs.{needs}
-use borrow.Author.Tests.{lt-ltb, le-ltb, not-false}
+use borrow.Author.Tests.{lt-ltb, le-ltb}
 use Rattle.rules.specs.Streams.{Stream, streams}
-use Rattle.rules.specs.Use.{envelope, turn-about}
-use Rattle.rules.specs.Refusals.{Test, unless, not-envelope}
+use Rattle.rules.specs.Use.{turn-about}
+use Rattle.rules.specs.Refusals.{Answer, done, Test, unless}
 use Rattle.rules.specs.Entries.{ring-short, turn-answer}
-use Rattle.ringside.specs.Meaning.{Passed}
-use Rattle.ringside.specs.Samples.{streams-length}
-use Rattle.ringside.specs.Tests.{refuses, passes, passed, refused-1, refused-2, refused-3, none-refused}
+use Rattle.samples.specs.Samples.{streams-length}
+use Rattle.samples.specs.Tests.{then-answer, answer-by, refuses, passes}
+use Rattle.samples.specs.declared.tests.Tested.{Tested}
 use Rattle.envelope.specs.Meaning.{turned-as}
+use Rattle.envelope.specs.Tests.{alone-tests, Sound, sound}
 use Rattle.envelope.specs.Turns.{parts-near, turned-length, turn-refused, turn-done}
 use Rattle.envelope.proofs.turn.turn_about.Statement.{statement}
 use Rattle.envelope.proofs.turn.turn_about.Tie as tie
@@ -34,154 +35,116 @@ oe c = c .args .out-east .now
 abbrev on : tie.Start → List ℤ
 on c = c .args .out-north .now
 
--- the ring turned about, and the tests after those of the ring
+-- the ring turned about, and the test after those of the ring
 abbrev turned-ring : tie.Start → List Stream
 turned-ring c = turn-about (streams (es c) (ns c))
 
 abbrev short : tie.Start → Test
 short c = ring-short (oe c) (on c) (turned-ring c)
 
-abbrev tests : tie.Start → List Test
-tests c = not-envelope (es c) (ns c) ∷ short c ∷ []
+-- what the entry answers
+abbrev Is : tie.Start → Answer (List Stream) → Type 0
+Is c answer = turn-answer (es c) (ns c) (oe c) (on c) ≡ answer
+
+-- by what the tests of the ring said
+after : (c : tie.After-of-ring) {t : Tested} → c .of-ring .result ≡ t → let a = c .before in
+    Is a (then-answer t (unless (short a ∷ []) (turned-ring a)))
+unfolding turn-answer
+after c e = let a = c .before in answer-by (alone-tests (es a) (ns a)) (short a ∷ []) (turned-ring a) (sym (c .of-ring .ensures) ∙ e)
 
 returns : tie.Need-returns
-unfolding turn-answer
 returns c =
-    let a = c .before .before in
-    turn-refused (es a) (ns a) (oe a) (on a) (ap turned-as (c .refused .ensures))
-    (refused-1 (es a) (ns a) (tests a) (turned-ring a) (c .before .if1 .taken))
+    let t = c .before .before in
+    let a = t .before .before .before in
+    turn-refused (es a) (ns a) (oe a) (on a) (ap turned-as (c .refused .ensures)) (after (t .before .before) (t .number .given .1))
 
-returns-2 : tie.Need-returns-2
-unfolding turn-answer
-returns-2 c =
-    let a = c .before .before .before in
-    turn-refused (es a) (ns a) (oe a) (on a) (ap turned-as (c .refused2 .ensures))
-    (refused-2 (es a) (ns a) (tests a) (turned-ring a) (c .before .before .if1 .left) (omega arith))
+-- where they are passed
+abbrev start : tie.After-enum-told → tie.Start
+start c = c .before .before .before
 
-returns-3 : tie.Need-returns-3
-unfolding turn-answer
-returns-3 c =
-    let a = c .before .before .before .before .before in
-    turn-refused (es a) (ns a) (oe a) (on a) (ap turned-as (c .refused3 .ensures))
-    (refused-3 (es a) (ns a) (tests a) (turned-ring a) (c .before .before .before .before .if1 .left) (omega arith)
-    (c .before .before .first-beyond .ensures) (omega arith))
+good : (c : tie.After-enum-told) → Sound (es (start c)) (ns (start c))
+good c = sound (es (start c)) (ns (start c)) (sym (c .before .before .of-ring .ensures) ∙ c .enum-told .given .1)
 
--- the entry, from where the ring passed its three tests
-abbrev start : tie.Else3 → tie.Start
-start c = c .before .before .before .before
-
-ring-passed : (c : tie.Else3) → Passed (es (start c)) (ns (start c))
-ring-passed c =
-    passed (es (start c)) (ns (start c)) (c .before .before .before .if1 .left) (c .before .first-beyond .ensures) (omega arith)
-
--- the tests that are left, and what the entry then answers
-abbrev Left : tie.Start → List Test → Type 0
-Left c ts = turn-answer (es c) (ns c) (oe c) (on c) ≡ unless ts (turned-ring c)
-
-left : (c : tie.Else3) → Left (start c) (tests (start c))
-unfolding turn-answer
-left c =
-    let a = start c in
-    none-refused (es a) (ns a) (tests a) (turned-ring a) (c .before .before .before .if1 .left) (omega arith)
-    (c .before .first-beyond .ensures) (omega arith)
-
-returns-4 : tie.Need-returns-4
-returns-4 c =
-    let a = start (c .before .before .before) in
-    turn-refused (es a) (ns a) (oe a) (on a) (ap turned-as (c .refused4 .ensures))
-    (left (c .before .before .before) ∙
-    refuses (not-envelope (es a) (ns a)) (short a ∷ []) (turned-ring a)
-    (sym (ap not (c .before .before .is-envelope .ensures)) ∙ c .before .if4 .taken))
-
--- from where the ring is an envelope
-abbrev start-4 : tie.Else4 → tie.Start
-start-4 c = start (c .before .before)
-
-is-one : (c : tie.Else4) → envelope (streams (es (start-4 c)) (ns (start-4 c))) ≡ true
-is-one c = sym (c .before .is-envelope .ensures) ∙ not-false (c .before .is-envelope .result) (c .if4 .left)
-
-left-4 : (c : tie.Else4) → Left (start-4 c) (short (start-4 c) ∷ [])
-left-4 c =
-    let a = start-4 c in
-    left (c .before .before) ∙ passes (not-envelope (es a) (ns a)) (short a ∷ []) (turned-ring a) (ap not (is-one c))
+left : (c : tie.After-enum-told) → Is (start c) (unless (short (start c) ∷ []) (turned-ring (start c)))
+left c = after (c .before .before) (c .enum-told .given .1)
 
 -- how many corners the ring turned about has
-count : (c : tie.Else4) → length (turned-ring (start-4 c)) ≡ length (es (start-4 c))
+count : (c : tie.After-enum-told) → length (turned-ring (start c)) ≡ length (es (start c))
 count c =
-    let a = start-4 c in
-    turned-length (streams (es a) (ns a)) (is-one c) ∙ streams-length (es a) (ns a) (ring-passed (c .before .before) .even)
+    let a = start c in
+    turned-length (streams (es a) (ns a)) (good c .is-envelope) ∙ streams-length (es a) (ns a) (good c .sampled .even)
 
-returns-5 : tie.Need-returns-5
-returns-5 c =
-    let a = start-4 (c .before .before) in
+returns-2 : tie.Need-returns-2
+returns-2 c =
+    let t = c .before .before in
+    let a = start t in
     let r = turned-ring a in
-    let n : length r ≡ length (es a) = count (c .before .before) in
-    turn-refused (es a) (ns a) (oe a) (on a) (ap turned-as (c .refused5 .ensures))
-    (left-4 (c .before .before) ∙
-    refuses (short a) [] r (ap (λ (b : Bool). b || ltb (length (on a)) (length r)) (lt-ltb (length (oe a)) (length r) (omega arith))))
+    let n : length r ≡ length (es a) = count t in
+    turn-refused (es a) (ns a) (oe a) (on a) (ap turned-as (c .refused2 .ensures))
+    (left t ∙ refuses (short a) [] r (ap (λ (b : Bool). b || ltb (length (on a)) (length r)) (lt-ltb (length (oe a)) (length r) (omega arith))))
 
-returns-6 : tie.Need-returns-6
-returns-6 c =
-    let a = start-4 (c .before .before .before) in
+returns-3 : tie.Need-returns-3
+returns-3 c =
+    let t = c .before .before .before in
+    let a = start t in
     let r = turned-ring a in
-    let n : length r ≡ length (es a) = count (c .before .before .before) in
-    turn-refused (es a) (ns a) (oe a) (on a) (ap turned-as (c .refused6 .ensures))
-    (left-4 (c .before .before .before) ∙
-    refuses (short a) [] r (ap₂ _||_ (le-ltb (length (oe a)) (length r) (omega arith)) (lt-ltb (length (on a)) (length r) (omega arith))))
+    let n : length r ≡ length (es a) = count t in
+    turn-refused (es a) (ns a) (oe a) (on a) (ap turned-as (c .refused3 .ensures))
+    (left t ∙ refuses (short a) [] r (ap₂ _||_ (le-ltb (length (oe a)) (length r) (omega arith)) (lt-ltb (length (on a)) (length r) (omega arith))))
 
-left-6 : (c : tie.Else6) → Left (start-4 (c .before .before)) []
-left-6 c =
-    let a = start-4 (c .before .before) in
+-- where both outputs have room
+abbrev passed : tie.Else2 → tie.After-enum-told
+passed c = c .before .before
+
+left-2 : (c : tie.Else2) → Is (start (passed c)) (done (turned-ring (start (passed c))))
+left-2 c =
+    let a = start (passed c) in
     let r = turned-ring a in
-    let n : length r ≡ length (es a) = count (c .before .before) in
-    left-4 (c .before .before) ∙
+    let n : length r ≡ length (es a) = count (passed c) in
+    left (passed c) ∙
     passes (short a) [] r (ap₂ _||_ (le-ltb (length (oe a)) (length r) (omega arith)) (le-ltb (length (on a)) (length r) (omega arith)))
 
 negate-from-requires : tie.Need-negate-from-requires
 negate-from-requires c κs =
-    let at = c .before .before .before .before .before .before in
-    let n = streams-length (es (start at)) (ns (start at)) (ring-passed at .even) in
-    (parts-near (ring-passed at) .0, omega (arith, n, c .before .entry .ensures .here), omega arith)
+    let t = passed (c .before .before) in
+    let n = streams-length (es (start t)) (ns (start t)) (good t .sampled .even) in
+    (parts-near (good t .sampled) .0, omega (arith, n, c .before .entry .ensures .here), omega arith)
 
 negate-from-requires-2 : tie.Need-negate-from-requires-2
 negate-from-requires-2 c κs =
-    let at = c .before .before .before .before .before .before .before .before .before in
-    let n = streams-length (es (start at)) (ns (start at)) (ring-passed at .even) in
-    let even = ring-passed at .even in
-    (parts-near (ring-passed at) .1, omega (arith, n, even, c .before .before .before .before .entry .ensures .here), omega (arith, even))
+    let t = passed (c .before .before .before .before .before) in
+    let even = good t .sampled .even in
+    let n = streams-length (es (start t)) (ns (start t)) even in
+    (parts-near (good t .sampled) .1, omega (arith, n, even, c .before .before .before .before .entry .ensures .here), omega (arith, even))
 
-returns-7 : tie.Need-returns-7
-returns-7 c =
+returns-4 : tie.Need-returns-4
+returns-4 c =
     let at = c .before .before .before .before .before .before .before in
-    let a = start-4 (at .before .before) in
-    turn-done (es a) (ns a) (oe a) (on a) (ring-passed (at .before .before .before .before)) (is-one (at .before .before))
+    let t = passed at in
+    let a = start t in
+    turn-done (es a) (ns a) (oe a) (on a) (good t .sampled) (good t .is-envelope)
     (c .before .before .before .before .before .before .entry .ensures)
     refl
     (c .before .before .before .before .negate-from .ensures)
     (c .before .negate-from2 .ensures)
-    (left-6 at)
+    (left-2 at)
 
 pub turn-about-spec : {M : Type 1} → statement M
 turn-about-spec =
     tie.close
     (tie.spec
     (λ c κs. search needs)
+    (λ c. search needs)
+    (λ c. search needs)
+    (λ c κs. search needs)
     returns
     (λ c κs. search needs)
     returns-2
     (λ c κs. search needs)
-    (λ c κs. search needs)
     returns-3
-    (λ c κs. ring-passed c)
-    (λ c κs. search needs)
-    returns-4
-    (λ c κs. search needs)
-    returns-5
-    (λ c κs. search needs)
-    returns-6
-    (λ c κs. (ring-passed (c .before .before .before .before) .even, is-one (c .before .before)))
+    (λ c κs. (good (passed c) .sampled .even, good (passed c) .is-envelope))
     negate-from-requires
     negate-from-requires-2
     (λ c. search needs)
     (λ c. search needs)
-    returns-7)
+    returns-4)

@@ -1,6 +1,6 @@
 -- `samples::tests::first_beyond` meets its contract: the loop has passed the samples within the limit. Assumes nothing.
 use mathlib.Core.Path.{_≡_, refl, sym, ap, ap₂, _∙_}
-use mathlib.Core.Bool.{Bool, true, false, not, _&&_, _||_}
+use mathlib.Core.Bool.{Bool, true, false, not, _||_}
 use mathlib.Core.List.{List}
 use Prim.Native.Nat.{ℕ, _-_, _^_, _<_}
 use native.Mathlib.Omega.{arith}
@@ -12,7 +12,7 @@ use lib.IntN.{ℤ, pos}
 use lib.Signed.{mag}
 use lib.ListN.{length, getD}
 use Rattle.rules.specs.Streams.{stream, streams, sample, within, beyond}
-use Rattle.samples.specs.Samples.{streams-length, sample-at}
+use Rattle.samples.specs.Samples.{streams-length, sample-at, beyond-parts}
 use Rattle.samples.specs.Scans.{Passed, passed-none, passed-more, passed-here, passed-all}
 use Rattle.samples.proofs.tests.first_beyond.Statement.{statement}
 use Rattle.samples.proofs.tests.first_beyond.Tie as tie
@@ -26,12 +26,7 @@ abbrev μ-loop : tie.MeasureT-loop
 -- a sample by its parts' tests
 beyond-by : (e n : List ℤ) (i : ℕ) → length e ≡ length n → (b c : Bool) → not (within (getD e i (pos 0))) ≡ b → not (within (getD n i (pos 0))) ≡ c
     → beyond (sample (streams e n) i) ≡ (b || c)
-unfolding beyond
-beyond-by e n i h b c p q = ap beyond (sample-at e n h i) ∙ go (within (getD e i (pos 0))) (within (getD n i (pos 0))) ∙ ap₂ _||_ p q
-  where
-    go : (x y : Bool) → not (x && y) ≡ (not x || not y)
-    go true y = refl
-    go false y = refl
+beyond-by e n i h b c p q = ap beyond (sample-at e n h i) ∙ beyond-parts (stream (getD e i (pos 0)) (getD n i (pos 0))) ∙ ap₂ _||_ p q
 
 -- what a call of `part_beyond` says, said of the part itself
 said : (z : ℤ) {t b : Bool} → mag z < 2 ^ 31 → t ≡ not (within (toZ w32 (ofZ w32 z))) → t ≡ b → not (within z) ≡ b

@@ -1,66 +1,57 @@
--- `samples::tests::of_samples` meets its contract: each return is the rules' tests in the order in which the code makes them. Assumes nothing.
-use mathlib.Core.Path.{refl, ap}
-use Prim.Native.Nat.{_+_, _*_}
+-- `samples::tests::of_samples` meets its contract: the tests of the lists, then the test for 4. Assumes nothing.
+use mathlib.Core.Path.{_≡_, sym, ap, _∙_}
+use mathlib.Core.Bool.{Bool, cond}
+use mathlib.Core.List.{[], _∷_}
+use Prim.Native.Nat.{_+_, _*_, _≤_}
+use native.Mathlib.Omega.{arith}
 use borrow.Author.Needs.{needs}
-use borrow.Author.Tests.{lt-ltb, le-ltb, eq-eqb, ne-eqb}
+use borrow.Author.Tests.{lt-ltb, le-ltb}
+use lib.Dec.{ltb}
 use lib.ListN.{length}
 use Rattle.rules.specs.Streams.{most}
-use Rattle.samples.specs.declared.tests.Tested.the-variants.{Refused}
-use Rattle.samples.specs.Samples.{place-inside, place-outside}
+use Rattle.rules.specs.Refusals.{test, ring-tests}
+use Rattle.samples.specs.declared.tests.Tested.{Tested}
+use Rattle.samples.specs.declared.tests.Tested.the-variants.{Passed, Refused}
+use Rattle.samples.specs.Tests.{tested-of, sample-tests, then-tested, tested-by, passed-tests, sampled-few}
 use Rattle.samples.proofs.tests.of_samples.Statement.{statement}
 use Rattle.samples.proofs.tests.of_samples.Tie as tie
 
+-- the test for 4, after those of the lists
+abbrev four : Bool → Tested
+four b = cond b (Refused 4 0) Passed
+
+after : (c : tie.After-of-lists) {t : Tested} → c .of-lists .result ≡ t → let a = c .before .args in
+    tested-of (sample-tests (a .e .now) (a .n .now) (a .room)) ≡ then-tested t (four (ltb (a .room) (16 * length (a .e .now) + 64)))
+after c e =
+    let a = c .before .args in
+    tested-by (ring-tests (a .e .now) (a .n .now)) (test 4 0 (ltb (a .room) (16 * length (a .e .now) + 64)) ∷ []) (sym (c .of-lists .ensures) ∙ e)
+
+few : (c : tie.After-enum-told) → length (c .before .before .before .args .e .now) ≤ most
+few c =
+    let a = c .before .before .before .args in
+    sampled-few (a .e .now) (a .n .now) []
+    (passed-tests (ring-tests (a .e .now) (a .n .now)) (sym (c .before .before .of-lists .ensures) ∙ c .enum-told .given .1)) .1
+
 returns : tie.Need-returns
-returns c = simp (ne-eqb (length (c .before .args .e .now)) (length (c .before .args .n .now)) (c .if1 .taken)) refl
+returns c = let a = c .before .before .before .before .args in
+    sym (after (c .before .before .before) (c .before .enum-told .given .1) ∙ ap four (lt-ltb (a .room) (16 * length (a .e .now) + 64) (c .if1 .taken)))
 
 returns-2 : tie.Need-returns-2
-returns-2 c =
-    let a = c .before .before .args in
-    simp (eq-eqb (length (a .e .now)) (length (a .n .now)) (c .before .if1 .left), lt-ltb most (length (a .e .now)) (c .if2 .taken)) refl
+returns-2 c = sym (after (c .before .before .before) (c .before .number .given .1))
 
 returns-3 : tie.Need-returns-3
-returns-3 c =
-    let a = c .before .before .before .before .args in
-    let es = a .e .now in
-    let ns = a .n .now in
-    let even = c .before .before .before .if1 .left in
-    let place = c .before .first-beyond .ensures in
-    simp (
-      eq-eqb (length es) (length ns) even,
-      le-ltb most (length es) (c .before .before .if2 .left),
-      place-inside es ns even place (c .if3 .taken),
-    )
-    (ap (Refused 3) place)
-
-returns-4 : tie.Need-returns-4
-returns-4 c =
-    let a = c .before .before .before .before .before .args in
-    let es = a .e .now in
-    let ns = a .n .now in
-    let even = c .before .before .before .before .if1 .left in
-    simp (
-      eq-eqb (length es) (length ns) even,
-      le-ltb most (length es) (c .before .before .before .if2 .left),
-      place-outside es ns even (c .before .before .first-beyond .ensures) (c .before .if3 .left),
-      lt-ltb (a .room) (16 * length es + 64) (c .if4 .taken),
-    )
-    refl
-
-returns-5 : tie.Need-returns-5
-returns-5 c =
-    let a = c .before .before .before .before .before .args in
-    let es = a .e .now in
-    let ns = a .n .now in
-    let even = c .before .before .before .before .if1 .left in
-    simp (
-      eq-eqb (length es) (length ns) even,
-      le-ltb most (length es) (c .before .before .before .if2 .left),
-      place-outside es ns even (c .before .before .first-beyond .ensures) (c .before .if3 .left),
-      le-ltb (a .room) (16 * length es + 64) (c .if4 .left),
-    )
-    refl
+returns-3 c = let a = c .before .before .before .before .args in
+    sym (after (c .before .before .before) (c .before .enum-told .given .1) ∙ ap four (le-ltb (a .room) (16 * length (a .e .now) + 64) (c .if1 .left)))
 
 pub of-samples-spec : {M : Type 1} → statement M
 of-samples-spec =
     tie.close
-    (tie.spec returns returns-2 (λ c κs. search needs) returns-3 (λ c. search needs) (λ c. search needs) returns-4 returns-5)
+    (tie.spec
+    (λ c κs. search needs)
+    (λ c. search needs)
+    (λ c. search needs)
+    (λ c. omega (arith, few c))
+    (λ c. omega (arith, few c))
+    returns
+    returns-2
+    returns-3)

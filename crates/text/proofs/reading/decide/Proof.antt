@@ -8,8 +8,9 @@ use borrow.Author.Needs.{needs}
 use lib.ListN.{length}
 use Rattle.rules.specs.Streams.{Stream, stream}
 use Rattle.rules.specs.Refusals.{done}
+use Rattle.rules.specs.Entries.{counted}
 use Rattle.text.specs.declared.reading.Found.{Found}
-use Rattle.text.specs.Meaning.{counted, NextLine}
+use Rattle.text.specs.Meaning.{NextLine}
 use Rattle.text.specs.Lines.{Passed, passed-none, passed-over, passed-bad, passed-more, passed-all}
 use Rattle.text.proofs.reading.decide.Statement.{statement}
 use Rattle.text.proofs.reading.decide.Tie as tie

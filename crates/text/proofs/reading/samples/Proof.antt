@@ -4,8 +4,8 @@ use mathlib.Core.Path.{_≡_, refl}
 use native.Mathlib.Omega.{arith}
 use borrow.Author.Needs.{needs}
 use Rattle.rules.specs.Refusals.{done}
+use Rattle.rules.specs.Entries.{counted}
 use Rattle.rules.specs.Program.{samples}
-use Rattle.text.specs.Meaning.{counted}
 use Rattle.text.specs.Lines.{outcome-refused, east-short, north-short, fit, fit-count}
 use Rattle.text.proofs.reading.samples.Statement.{statement}
 use Rattle.text.proofs.reading.samples.Tie as tie

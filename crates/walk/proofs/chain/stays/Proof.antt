@@ -9,7 +9,8 @@ use lib.Signed.{ltZ}
 use lib.ListN.{getD}
 use denote.Ref.{now}
 use Rattle.rules.specs.Streams.{Stream, side}
-use Rattle.ringside.specs.Meaning.{Near, stream-of}
+use Rattle.samples.specs.Positions.{Near}
+use Rattle.ringside.specs.Meaning.{stream-of}
 use Rattle.stack.specs.Stack.{stays, stays-one, stays-more}
 use Rattle.walk.specs.Both.{listed-at}
 use Rattle.walk.specs.Places.{corner-near}

@@ -7,7 +7,7 @@ use native.Mathlib.Numerals.{add-one}
 use native.Mathlib.Omega.{arith}
 use denote.Ref.{now}
 use Rattle.rules.specs.Streams.{Stream}
-use Rattle.ringside.specs.Meaning.{Near}
+use Rattle.samples.specs.Positions.{Near}
 use Rattle.stack.specs.Walk.{skips}
 use Rattle.walk.specs.Both.{listed-at, Next}
 use Rattle.walk.specs.Places.{corner-near}

@@ -2,7 +2,7 @@
 -- Assumes nothing.
 use mathlib.Core.Path.{sym, ap, _∙_, subst}
 use borrow.Author.Needs.{needs}
-use Rattle.ringside.specs.Meaning.{Near}
+use Rattle.samples.specs.Positions.{Near}
 use Rattle.walk.specs.Both.{facing}
 use Rattle.walk.proofs.corners.seen.Statement.{statement}
 use Rattle.walk.proofs.corners.seen.Tie as tie
