@@ -4,7 +4,7 @@ use mathlib.Core.List.{List, map}
 use Prim.Native.Nat.{ℕ}
 use lib.IntN.{ℤ, pos}
 use lib.Ieee.{Float}
-use Rattle.rules.specs.Door.{PartIs, whole, not-a-number, too-large, fraction, part, Readings, taken, bad, bad-float}
+use Rattle.rules.specs.Door.{PartIs, whole, not-a-number, too-large, fraction, part-number, part, Readings, taken, bad, bad-float}
 use Rattle.rules.specs.Entries.{DoorAnswer, door-done, door-refused, door-refused-float}
 use Rattle.door.specs.declared.PartAnswer.{PartAnswer}
 use Rattle.door.specs.declared.PartAnswer.the-variants.{Whole, NotANumber, TooLarge, Fraction}
@@ -29,9 +29,9 @@ door-as (RefusedFloat number place x) = door-refused-float number place x
 -- a part's refusal at a place, or that it is taken
 abbrev pub refusal-of : PartIs → ℕ → ReadingsAnswer
 refusal-of (whole z) i = Done 1
-refusal-of not-a-number i = Refused 12 i
-refusal-of (too-large x) i = RefusedFloat 13 i x
-refusal-of (fraction x) i = RefusedFloat 14 i x
+refusal-of not-a-number i = Refused (part-number not-a-number) i
+refusal-of (too-large x) i = RefusedFloat (part-number (too-large x)) i x
+refusal-of (fraction x) i = RefusedFloat (part-number (fraction x)) i x
 
 -- the first of two that is a refusal
 abbrev pub first-refusal : ReadingsAnswer → ReadingsAnswer → ReadingsAnswer

@@ -18,6 +18,13 @@ pub data PartIs : Type 0 where
   too-large : Float → PartIs
   fraction : Float → PartIs
 
+-- the number of each case, 0 for a part that is taken
+abbrev pub part-number : PartIs → ℕ
+part-number (whole z) = 0
+part-number not-a-number = 12
+part-number (too-large f) = 13
+part-number (fraction f) = 14
+
 abbrev pub signed : Bool → ℕ → ℤ
 signed true n = negℤ (pos n)
 signed false n = pos n
@@ -37,12 +44,12 @@ pub data Readings : Type 0 where
 
 -- one reading before the others, of which the place counts from the one before
 abbrev pub and-then : ℕ → PartIs → PartIs → Readings → Readings
-and-then i not-a-number n r = bad 12 i
-and-then i (too-large f) n r = bad-float 13 i f
-and-then i (fraction f) n r = bad-float 14 i f
-and-then i (whole x) not-a-number r = bad 12 i
-and-then i (whole x) (too-large f) r = bad-float 13 i f
-and-then i (whole x) (fraction f) r = bad-float 14 i f
+and-then i not-a-number n r = bad (part-number not-a-number) i
+and-then i (too-large f) n r = bad-float (part-number (too-large f)) i f
+and-then i (fraction f) n r = bad-float (part-number (fraction f)) i f
+and-then i (whole x) not-a-number r = bad (part-number not-a-number) i
+and-then i (whole x) (too-large f) r = bad-float (part-number (too-large f)) i f
+and-then i (whole x) (fraction f) r = bad-float (part-number (fraction f)) i f
 and-then i (whole x) (whole y) (taken es ns) = taken (x ∷ es) (y ∷ ns)
 and-then i (whole x) (whole y) (bad k p) = bad k p
 and-then i (whole x) (whole y) (bad-float k p f) = bad-float k p f
