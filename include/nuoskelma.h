@@ -5,7 +5,8 @@
  * where none is named). What a result does not have is 0. A refusal alters nothing that was lent, except that refusals 5 and 18 of a function with scratch
  * leave all the scratch zero.
  *
- * A list passes as a pointer and a length in items. The pointer of an empty list may be anything that is not null and is aligned.
+ * A list passes as a pointer and a length in items. The pointer of an empty list may be anything that is not null and is aligned. A list that is written,
+ * scratch among them, overlaps no other list of the call.
  */
 #ifndef NUOSKELMA_H
 #define NUOSKELMA_H
@@ -16,6 +17,15 @@
 #ifdef __cplusplus
 extern "C" {
 #endif
+
+/* A part's size is at most this: hundredths of a millimetre per second. */
+#define NUOSKELMA_LIMIT 1000000
+
+/* The most samples, list items, corners or joined corners. */
+#define NUOSKELMA_MOST 65536
+
+/* The words of scratch that so many samples, list items or joined corners ask for; they may hold anything before the call. */
+#define NUOSKELMA_SCRATCH(items) (16 * (size_t)(items) + 64)
 
 /* ---- Rank picker. */
 #define NUOSKELMA_HAS_PICK 1

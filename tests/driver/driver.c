@@ -23,6 +23,10 @@
    12  part         x (bits)
    13  readings                    east, north (doubles), out_east, out_north
    14  record                      bytes, out_east, out_north
+   15  no entry     bytes                                                       writes so many bytes of stack, from above
+
+   An op with 100 added is the same on a stack of its own, of 65,536 bytes and not one more: what lies below may not be touched, and a call that goes deeper
+   ends this program by signal 11. Its response has one scalar more, how many bytes of that stack were used, counted down to the lowest one written.
 
    Ends with status 0 when the input ends after a response, 3 at an op that is unknown or has not landed, 4 at a request that is cut or not of its op's
    form, 5 if a guarded byte was altered. */
@@ -32,6 +36,9 @@
 extern long read(int from, void *into, size_t most);
 extern long write(int to, const void *from, size_t most);
 extern void *memcpy(void *to, const void *from, size_t count);
+extern void *memset(void *to, int byte, size_t count);
+extern void *mmap(void *at, size_t count, int protection, int flags, int file, long offset);
+extern int mprotect(void *at, size_t count, int protection);
 extern void exit(int status) __attribute__((noreturn));
 
 enum { UNKNOWN_OP = 3, BAD_REQUEST = 4, GUARD_ALTERED = 5 };
@@ -347,6 +354,12 @@ static void record(void) {
 }
 #endif
 
+static void use_stack(void) {
+    form(1, "");
+    volatile uint8_t *used = __builtin_alloca((size_t)scalars[0]);
+    for (size_t i = (size_t)scalars[0]; i > 0; i--) used[i - 1] = 0;
+}
+
 static void answer(uint32_t op) {
     switch (op) {
 #ifdef NUOSKELMA_HAS_PICK
@@ -389,15 +402,51 @@ static void answer(uint32_t op) {
 #ifdef NUOSKELMA_HAS_RECORD
     case 14: record(); break;
 #endif
+    case 15: use_stack(); break;
     default: flush(); exit(UNKNOWN_OP);
     }
+}
+
+/* ---- the small stack */
+
+enum { SMALL_STACK = 1 << 16, BELOW_IT = 1 << 20, ON_SMALL_STACK = 100 };
+
+/* as Linux has them on x86-64 */
+enum { NO_USE = 0, READ_AND_WRITE = 3, PRIVATE_AND_FRESH = 0x22 };
+
+static uint8_t *small_stack;
+
+static void make_small_stack(void) {
+    uint8_t *at = mmap(NULL, BELOW_IT + SMALL_STACK, NO_USE, PRIVATE_AND_FRESH, -1, 0);
+    if (at == (uint8_t *)-1 || mprotect(at + BELOW_IT, SMALL_STACK, READ_AND_WRITE) != 0) exit(BAD_REQUEST);
+    small_stack = at + BELOW_IT;
+}
+
+static void answer_on_small_stack(uint32_t op) {
+    if (small_stack == NULL) make_small_stack();
+    memset(small_stack, GUARD_BYTE, SMALL_STACK);
+    __asm__ volatile("movq %%rsp, %%rbx\n\t"
+                     "movq %[top], %%rsp\n\t"
+                     "call *%[run]\n\t"
+                     "movq %%rbx, %%rsp"
+                     : "+D"(op)
+                     : [top] "r"(small_stack + SMALL_STACK), [run] "r"(answer)
+                     : "rax", "rbx", "rcx", "rdx", "rsi", "r8", "r9", "r10", "r11", "xmm0", "xmm1", "xmm2", "xmm3", "xmm4", "xmm5", "xmm6", "xmm7", "xmm8",
+                       "xmm9", "xmm10", "xmm11", "xmm12", "xmm13", "xmm14", "xmm15", "cc", "memory");
+    size_t unused = 0;
+    while (unused < SMALL_STACK && small_stack[unused] == GUARD_BYTE) unused++;
+    say((int64_t)(SMALL_STACK - unused));
 }
 
 int main(void) {
     while (more()) {
         uint32_t op = get_u32();
         get_request();
-        answer(op);
+        if (op < ON_SMALL_STACK) {
+            answer(op);
+        } else {
+            answer_on_small_stack(op - ON_SMALL_STACK);
+        }
         check_guards();
         put_response();
     }

@@ -12,6 +12,8 @@ pub mod readings;
 pub mod record;
 pub mod ring;
 pub mod round;
+pub mod soundings;
+pub mod stack;
 pub mod strongest;
 pub mod turn_about;
 
@@ -19,21 +21,32 @@ use crate::driver::Desk;
 use crate::gen::Chance;
 use crate::rules::{scratch_for, Answer};
 
-/// The names by which entries are asked for, with their cases.
-pub const ENTRIES: [(&str, fn(&mut Desk)); 13] = [
-    ("pick", pick::cases),
-    ("round", round::cases),
-    ("bridge", bridge::cases),
-    ("chains", chains::cases),
-    ("ring", ring::cases),
-    ("hand", hand::cases),
-    ("strongest", strongest::cases),
-    ("cover", cover::cases),
-    ("turn_about", turn_about::cases),
-    ("join", join::cases),
-    ("part", part::cases),
-    ("readings", readings::cases),
-    ("record", record::cases),
+/// The cases of an entry, or of the two of the hand.
+pub struct Cases {
+    /// the name by which it is asked for
+    pub name: &'static str,
+    /// the soundings that are run, with what the rules' own page says of them
+    pub soundings: fn(&mut Desk),
+    /// all cases, the largest among them
+    pub all: fn(&mut Desk),
+    /// the cases of as many samples, numbers, readings or corners as are taken, and of one more
+    pub largest: fn(&mut Desk),
+}
+
+pub const ENTRIES: [Cases; 13] = [
+    Cases { name: "pick", soundings: soundings::pick, all: pick::cases, largest: pick::largest },
+    Cases { name: "round", soundings: soundings::round, all: round::cases, largest: round::largest },
+    Cases { name: "bridge", soundings: soundings::bridge, all: bridge::cases, largest: bridge::largest },
+    Cases { name: "chains", soundings: soundings::chains, all: chains::cases, largest: chains::largest },
+    Cases { name: "ring", soundings: soundings::ring, all: ring::cases, largest: ring::largest },
+    Cases { name: "hand", soundings: soundings::hand, all: hand::cases, largest: soundings::hand },
+    Cases { name: "strongest", soundings: soundings::strongest, all: strongest::cases, largest: strongest::largest },
+    Cases { name: "cover", soundings: soundings::cover, all: cover::cases, largest: cover::largest },
+    Cases { name: "turn_about", soundings: soundings::turn_about, all: turn_about::cases, largest: turn_about::largest },
+    Cases { name: "join", soundings: soundings::join, all: join::cases, largest: join::largest },
+    Cases { name: "part", soundings: soundings::part, all: part::cases, largest: soundings::part },
+    Cases { name: "readings", soundings: soundings::readings, all: readings::cases, largest: readings::largest },
+    Cases { name: "record", soundings: soundings::record, all: record::cases, largest: record::largest },
 ];
 
 /// A result's number and place, then its other fields, which are 0 at a refusal.

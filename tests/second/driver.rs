@@ -1,8 +1,9 @@
 //! Lends cases to the library through the driver, and compares what it left with what the rules say.
 
 use std::io::{BufReader, BufWriter, Read, Write};
-use std::process::{exit, ChildStdin, Command, Stdio};
-use std::sync::mpsc::{channel, Sender};
+use std::process::{exit, Child, ChildStdin, ChildStdout, Command, ExitStatus, Stdio};
+use std::sync::mpsc::{channel, Receiver, Sender};
+use std::thread::JoinHandle;
 
 /// An entry as the driver's table has it: its op, and the names of its scalars, its slices and its result's fields.
 pub struct Entry {
@@ -40,6 +41,8 @@ pub const JOIN: Entry =
 pub const PART: Entry = entry(12, "part", &["x (bits)"], &[], &["number", "value", "back (bits)"]);
 pub const READINGS: Entry = entry(13, "readings", &[], &["east", "north", "out_east", "out_north"], &["number", "place", "count", "back (bits)"]);
 pub const RECORD: Entry = entry(14, "record", &[], &["bytes", "out_east", "out_north"], &["number", "place", "count"]);
+/// No entry: the driver writes so many bytes of its stack.
+pub const USE_STACK: Entry = entry(15, "use_stack", &["bytes"], &[], &[]);
 
 /// A lent list. Floats are their bits.
 #[derive(Clone, PartialEq, Eq)]
@@ -111,9 +114,10 @@ pub struct Case {
 }
 
 impl Case {
-    fn request(&self) -> Vec<u8> {
+    fn request(&self, stack: Stack) -> Vec<u8> {
         let mut bytes = Vec::new();
-        bytes.extend(self.entry.op.to_le_bytes());
+        let op = self.entry.op + if stack == Stack::Small { ON_SMALL_STACK } else { 0 };
+        bytes.extend(op.to_le_bytes());
         bytes.extend((self.scalars.len() as u32).to_le_bytes());
         bytes.extend(self.scalars.iter().flat_map(|x| x.to_le_bytes()));
         bytes.extend((self.lent.len() as u32).to_le_bytes());
@@ -169,8 +173,23 @@ impl Case {
     }
 }
 
+/// The stack that the library is called on.
+#[derive(Clone, Copy, PartialEq, Eq)]
+pub enum Stack {
+    Ordinary,
+    /// SMALL_STACK bytes and not one more; the driver says how many of them were used
+    Small,
+}
+
+/// So many bytes has the driver's small stack.
+pub const SMALL_STACK: i64 = 65_536;
+
+/// What the driver adds to an op that it runs on the small stack.
+const ON_SMALL_STACK: u32 = 100;
+
 /// Where cases are put to be compared.
 pub struct Desk {
+    stack: Stack,
     to_driver: BufWriter<ChildStdin>,
     to_reader: Sender<Case>,
 }
@@ -179,7 +198,7 @@ impl Desk {
     /// The reader is told of the case before the driver is, so it never waits for one that it does not know. A driver that has ended is noticed by the
     /// reader, so nothing is made of that here.
     pub fn put(&mut self, case: Case) {
-        let request = case.request();
+        let request = case.request(self.stack);
         let _ = self.to_reader.send(case);
         let _ = self.to_driver.write_all(&request);
     }
@@ -208,40 +227,82 @@ fn read_response(from: &mut impl Read) -> std::io::Result<(Vec<i64>, Vec<Vec<u8>
     Ok((said, slices))
 }
 
-fn fail(text: String) -> ! {
+pub fn fail(text: String) -> ! {
     println!("{text}");
     exit(1)
 }
 
-/// Compares the library with the rules on every case that `cases` puts on the desk, and says how many those were. Ends the program at the first difference.
-/// A thread of its own makes the cases and writes the requests, so that neither pipe can block the other.
-pub fn compare(driver: &str, cases: fn(&mut Desk)) -> u64 {
+/// Cases of one kind, by the words for it: how many they were, and how many bytes of the small stack the deepest of them used.
+pub struct Kind {
+    pub words: &'static str,
+    pub count: u64,
+    pub deepest: i64,
+}
+
+/// What was compared, kind by kind in the order in which they came.
+#[derive(Default)]
+pub struct Compared {
+    pub kinds: Vec<Kind>,
+}
+
+impl Compared {
+    pub fn count(&self) -> u64 {
+        self.kinds.iter().map(|kind| kind.count).sum()
+    }
+
+    fn add(&mut self, words: &'static str, used: i64) {
+        match self.kinds.iter_mut().find(|kind| kind.words == words) {
+            Some(kind) => {
+                kind.count += 1;
+                kind.deepest = kind.deepest.max(used);
+            }
+            None => self.kinds.push(Kind { words, count: 1, deepest: used }),
+        }
+    }
+}
+
+/// A driver that is running, and the thread that makes the cases and writes the requests, so that neither pipe can block the other.
+struct Running {
+    child: Child,
+    from_driver: BufReader<ChildStdout>,
+    from_desk: Receiver<Case>,
+    writer: JoinHandle<()>,
+}
+
+fn start(driver: &str, stack: Stack, cases: impl FnOnce(&mut Desk) + Send + 'static) -> Running {
     let mut child = match Command::new(driver).stdin(Stdio::piped()).stdout(Stdio::piped()).spawn() {
         Ok(child) => child,
         Err(error) => fail(format!("{driver} does not start: {error}")),
     };
     let (to_reader, from_desk) = channel();
     let to_driver = BufWriter::with_capacity(1 << 16, child.stdin.take().expect("the driver's input is a pipe"));
-    let mut from_driver = BufReader::with_capacity(1 << 16, child.stdout.take().expect("the driver's output is a pipe"));
+    let from_driver = BufReader::with_capacity(1 << 16, child.stdout.take().expect("the driver's output is a pipe"));
     let writer = std::thread::spawn(move || {
-        let mut desk = Desk { to_driver, to_reader };
+        let mut desk = Desk { stack, to_driver, to_reader };
         cases(&mut desk);
         let _ = desk.to_driver.flush();
     });
-    let mut compared = 0;
+    Running { child, from_driver, from_desk, writer }
+}
+
+/// Compares the library with the rules on every case that `cases` puts on the desk. Ends the program at the first difference.
+pub fn compare(driver: &str, stack: Stack, cases: impl FnOnce(&mut Desk) + Send + 'static) -> Compared {
+    let Running { mut child, mut from_driver, from_desk, writer } = start(driver, stack, cases);
+    let mut compared = Compared::default();
     for case in from_desk {
         match read_response(&mut from_driver) {
-            Ok((said, slices)) => {
+            Ok((mut said, slices)) => {
+                let used = if stack == Stack::Small { said.pop().unwrap_or(SMALL_STACK) } else { 0 };
                 if let Some(difference) = case.difference(&said, &slices) {
-                    fail(format!("DIFFERENCE in case {}\n{}{difference}", compared + 1, case.shown()));
+                    fail(format!("DIFFERENCE in case {}\n{}{difference}", compared.count() + 1, case.shown()));
                 }
+                compared.add(case.words, used);
             }
             Err(error) => {
                 let status = child.wait().map_or("unknown".to_string(), |status| status.to_string());
-                fail(format!("NO RESPONSE to case {} ({error}; the driver: {status})\n{}", compared + 1, case.shown()));
+                fail(format!("NO RESPONSE to case {} ({error}; the driver: {status})\n{}", compared.count() + 1, case.shown()));
             }
         }
-        compared += 1;
     }
     if writer.join().is_err() {
         fail("the cases were not all made".to_string());
@@ -250,4 +311,13 @@ pub fn compare(driver: &str, cases: fn(&mut Desk)) -> u64 {
         Ok(status) if status.success() => compared,
         other => fail(format!("the driver did not end well: {other:?}")),
     }
+}
+
+/// How a driver ends that is put cases which it cannot live through, if it does not respond to the first of them.
+pub fn end_of(driver: &str, stack: Stack, cases: impl FnOnce(&mut Desk) + Send + 'static) -> Option<ExitStatus> {
+    let Running { mut child, mut from_driver, writer, .. } = start(driver, stack, cases);
+    let responded = read_response(&mut from_driver).is_ok();
+    let _ = writer.join();
+    let status = child.wait().ok()?;
+    (!responded).then_some(status)
 }

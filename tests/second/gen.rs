@@ -102,7 +102,7 @@ pub const KINDS: [(&str, Maker); 15] = [
     ("tiny grid", |chance, n| grid(chance, n, 2)),
     ("small grid", |chance, n| grid(chance, n, 6)),
     ("middle grid", |chance, n| grid(chance, n, 100)),
-    ("whole sheet", |chance, n| grid(chance, n, LIMIT as i64)),
+    ("square", |chance, n| grid(chance, n, LIMIT as i64)),
     ("ends of the sheet", ends),
     ("one line", one_line),
     ("almost one line", almost_one_line),
@@ -115,6 +115,33 @@ pub const KINDS: [(&str, Maker); 15] = [
     ("close slopes", close_slopes),
     ("tide", tide),
 ];
+
+/// More kinds, for lists that are long.
+pub const LONG_KINDS: [(&str, Maker); 12] = [
+    ("gauss", gauss),
+    ("three easts", |chance, n| (0..n).map(|_| at(chance.between(-1, 1), chance.between(-1_000_000, 1_000_000))).collect()),
+    ("tide on few easts", |chance, n| tide(chance, n).iter().map(|p| at(p.east / 20_000 * 20_000, p.north)).collect()),
+    ("circle of the limit", |chance, n| circle_of(chance, n, LIMIT as f64)),
+    ("most corners", most_corners),
+    ("ascending", ascending),
+    ("descending", |chance, n| ascending(chance, n).iter().map(|p| at(-p.east, p.north)).collect()),
+    ("one line, ascending", |_, n| (0..n as i64).map(|place| at(30 * place - 983_040, 7 * place - 229_376)).collect()),
+    ("deep to the left", |chance, n| deep(chance, n, 1, 1)),
+    ("deep to the right", |chance, n| deep(chance, n, -1, 1)),
+    ("deep to the left below", |chance, n| deep(chance, n, 1, -1)),
+    ("deep to the right below", |chance, n| deep(chance, n, -1, -1)),
+];
+
+/// Samples of every kind, so many of each.
+pub fn of_every_kind(chance: &mut Chance, n: usize) -> Vec<(&'static str, Samples)> {
+    KINDS.iter().chain(&LONG_KINDS).map(|(words, maker)| (*words, Samples::of(&maker(chance, n)))).collect()
+}
+
+/// Samples of the kinds that differ most: tides, as many corners as a circle has, few easts, one line, one position.
+pub fn of_some_kinds(chance: &mut Chance, n: usize) -> Vec<(&'static str, Samples)> {
+    let some = ["tide", "circle of the limit", "three easts", "one line, ascending", "all equal"];
+    of_every_kind(chance, n).into_iter().filter(|(words, _)| some.contains(words)).collect()
+}
 
 fn grid(chance: &mut Chance, n: usize, reach: i64) -> Vec<Position> {
     (0..n).map(|_| at(chance.between(-reach, reach), chance.between(-reach, reach))).collect()
@@ -167,6 +194,10 @@ fn vertical_pairs(chance: &mut Chance, n: usize) -> Vec<Position> {
 
 fn circle(chance: &mut Chance, n: usize) -> Vec<Position> {
     let radius = chance.of(&[3, 10, 1000, LIMIT]) as f64;
+    circle_of(chance, n, radius)
+}
+
+fn circle_of(chance: &mut Chance, n: usize, radius: f64) -> Vec<Position> {
     (0..n)
         .map(|_| {
             let turn = chance.swing() * std::f64::consts::PI;
@@ -217,6 +248,39 @@ pub fn tide(chance: &mut Chance, n: usize) -> Vec<Position> {
         })
         .map(|p| at(p.east.clamp(-1_000_000, 1_000_000), p.north.clamp(-1_000_000, 1_000_000)))
         .collect()
+}
+
+/// Dense in the middle: each part is the sum of twelve by chance.
+fn gauss(chance: &mut Chance, n: usize) -> Vec<Position> {
+    let mut part = || (0..12).map(|_| chance.between(-80_000, 80_000)).sum();
+    (0..n).map(|_| at(part(), part())).collect()
+}
+
+/// A ring of as many corners as there is room for, out of order, with repeats.
+fn most_corners(chance: &mut Chance, n: usize) -> Vec<Position> {
+    let mut list = large_ring(n.min(MOST_CORNERS));
+    let repeats = n - list.len();
+    list.extend_from_within(..repeats);
+    chance.shuffle(&mut list);
+    list
+}
+
+/// Easts in order.
+fn ascending(chance: &mut Chance, n: usize) -> Vec<Position> {
+    (0..n as i64).map(|place| at(30 * place - 983_040, chance.between(-1_000_000, 1_000_000))).collect()
+}
+
+/// The chain step calls itself as often as it can, one call inside the other, 16 for 65,536 samples: those of rank 1, 2, 4, 8 and so on by east are the
+/// corners of the upper chain, so each list is half the one before and its left end is not yet reached. Mirrored in east or north by a sign.
+fn deep(chance: &mut Chance, n: usize, east: i64, north: i64) -> Vec<Position> {
+    let one = |rank: i64| {
+        let corner = rank & (rank - 1) == 0;
+        let height = if corner { 50_000 * rank.ilog2() as i64 } else { -chance.between(1, 100_000) };
+        at(east * (30 * rank - 983_070), north * height)
+    };
+    let mut list: Vec<Position> = (1..=n as i64).map(one).collect();
+    chance.shuffle(&mut list);
+    list
 }
 
 /// Samples of some kind, often out of order and with repeats.
@@ -336,7 +400,10 @@ pub fn almost_ring(chance: &mut Chance) -> (&'static str, Vec<Position>) {
     (words, list)
 }
 
-/// A ring of exactly so many corners, up to about 45,000: its edges are the shortest of different directions, in the order of their turn.
+/// So many corners has the largest ring below.
+pub const MOST_CORNERS: usize = 55_940;
+
+/// A ring of exactly so many corners, up to MOST_CORNERS: its edges are the shortest of different directions, in the order of their turn.
 pub fn large_ring(corners: usize) -> Vec<Position> {
     fn common(a: i64, b: i64) -> i64 {
         if b == 0 {

@@ -1,2 +1,3 @@
 mod Siding
 mod Answers
+pub mod Outcomes

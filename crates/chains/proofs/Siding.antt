@@ -1,9 +1,9 @@
 -- One side: its ends, its first list and the chain of that, told by the numbers that the rules report. And both sides, one behind the other.
 -- Assumes nothing.
-use mathlib.Core.Path.{_≡_, refl, sym, ap, ap₂, _∙_, subst, subst⁻¹, fun-ext}
+use mathlib.Core.Path.{_≡_, refl, sym, ap, _∙_, subst, subst⁻¹}
 use mathlib.Core.Logic.{⊎-elim}
-use mathlib.Core.Bool.{Bool, true, false, cond}
-use mathlib.Core.List.{List, [], _∷_, _++_, map, map-map, List·Memᴰ, List·Memᴰ·not-nil, List·Memᴰ·cases-cons, Memᴰ·of-map}
+use mathlib.Core.Bool.{Bool, true, false}
+use mathlib.Core.List.{List, [], _∷_, _++_, map, List·Memᴰ, List·Memᴰ·not-nil, List·Memᴰ·cases-cons, Memᴰ·of-map}
 use Prim.Native.Nat.{ℕ, zero, suc, _+_, _-_, _*_, _≤_, _<_}
 use native.Mathlib.Nat.{le-refl}
 use native.Mathlib.Omega.{arith}
@@ -11,49 +11,28 @@ use lib.IntN.{ℤ}
 use lib.ListN.{length, take, drop}
 use lib.Seq.{length-take-le, take-append-le, drop-at}
 use borrow.Rule.Slice.PartMut.{midOf, putMid, mid-len, same-len-mid, take-put}
-use Rattle.rules.specs.Lists.{first-place}
-use Rattle.rules.specs.Streams.{Stream, streams, same, mirrored}
-use Rattle.rules.specs.Chain.{corners, upper, lower, lowest, upper-numbers, lower-numbers}
-use Rattle.outline.specs.Lists.{those-most, those-in, same-equal, equal-same}
-use Rattle.outline.specs.Sides.{mirrored-twice}
-use Rattle.rounds.specs.Items.{same-true, first-of-in}
+use Rattle.rules.specs.Streams.{Stream, streams}
+use Rattle.rules.specs.Chain.{corners, upper, lower, upper-numbers, lower-numbers}
+use Rattle.outline.specs.Lists.{those-most, those-in}
+use Rattle.rounds.specs.Items.{first-of-in}
 use Rattle.rounds.specs.Pairs.{here}
 use Rattle.rounds.specs.WholeList.{numbers, numbers-length}
-use Rattle.samples.specs.Positions.{Sampled, Listed, at, east-of}
+use Rattle.samples.specs.Positions.{Listed, at, east-of}
 use Rattle.step.specs.Lists.{between, first-numbers, FirstAsks, Listing}
-use Rattle.step.specs.Ends.{EndAsks, EndOf, nearest}
+use Rattle.step.specs.Ends.{EndOf, nearest}
 use Rattle.step.specs.Chaining.{Chainable, chain-numbers}
-use Rattle.step.specs.Stepping.{facing, number-at, ChainAsks, ChainIs, ChainSays}
+use Rattle.step.specs.Stepping.{facing, number-at, ChainAsks, ChainSays}
 use Rattle.step.specs.First.{first-chainable, first-chain, end-is}
 use Rattle.step.specs.declared.Stepped.{Stepped}
 use Rattle.step.specs.declared.Stepped.the-variants.{Chain, NoBridge}
+use Rattle.chains.specs.Mirrored.{lower-mirrored}
 use Rattle.chains.specs.Sides.{side-numbers, SideAsks, SideIs, SideSays, BothAre}
 
 -- ---- the numbers of a side
 
-first-place-map : {A B : Type 0} (f : B → Bool) (g : A → B) (xs : List A) → first-place f (map g xs) ≡ first-place (λ x. f (g x)) xs
-unfolding first-place
-first-place-map f g [] = refl
-first-place-map f g (x ∷ xs) = ap (λ (n : ℕ). cond (f (g x)) zero (suc n)) (first-place-map f g xs)
-
--- a position and a sample that stand at one position do so with their norths negated
-same-mirrored : (p s : Stream) → same (mirrored p) s ≡ same p (mirrored s)
-same-mirrored p s =
-    same-true
-    (same (mirrored p) s)
-    (same p (mirrored s))
-    (λ e. equal-same (sym (mirrored-twice p) ∙ ap mirrored (same-equal (mirrored p) s e)))
-    (λ e. equal-same (ap mirrored (same-equal p (mirrored s) e) ∙ mirrored-twice s))
-
-lowest-mirrored : (xs : List Stream) (p : Stream) → lowest xs (mirrored p) ≡ lowest (map mirrored xs) p
-unfolding lowest
-lowest-mirrored xs p = ap (λ (f : Stream → Bool). first-place f xs) (fun-ext (same-mirrored p)) ∙ sym (first-place-map (same p) mirrored xs)
-
 reported : (es ns : List ℤ) (lower : Bool) → map (number-at es ns lower) (upper (facing es ns lower)) ≡ side-numbers es ns lower
-unfolding upper-numbers lower-numbers lower
-reported es ns true =
-    let xs = streams es ns in
-    sym (map-map (lowest xs) mirrored (upper (map mirrored xs)) ∙ ap (λ (f : Stream → ℕ). map f (upper (map mirrored xs))) (fun-ext (lowest-mirrored xs)))
+unfolding upper-numbers
+reported es ns true = sym (lower-mirrored (streams es ns))
 reported es ns false = refl
 
 -- no samples: both chains empty

@@ -1,2 +1,3 @@
+pub mod Mirrored
 pub mod Sides
 pub mod Promise

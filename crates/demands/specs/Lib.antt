@@ -1,5 +1,9 @@
 pub mod Done
+pub mod Chains
 pub mod Joined
 pub mod Turned
 pub mod Strongest
 pub mod Covered
+pub mod Contracts
+pub mod Cases
+pub mod Soundings

@@ -2,7 +2,7 @@
 -- Assumes nothing.
 use mathlib.Core.Path.{_≡_, sym, ap, _∙_, subst}
 use mathlib.Core.List.{List, map, map-map, List·Memᴰ, Memᴰ·of-map}
-use Prim.Native.Nat.{ℕ, _+_, _-_, _*_, _/_, _^_, _≤_, _<_}
+use Prim.Native.Nat.{ℕ, _+_, _-_, _*_, _^_, _≤_, _<_}
 use native.Mathlib.Nat.{le-refl}
 use native.Mathlib.Omega.{arith}
 use borrow.Rule.Slice.PartMut.{midOf}
@@ -62,5 +62,5 @@ module _ {es : List ℤ} {w : List ℕ} {t : ℕ} (asks : CutAsks es w t) where
         ∙ take-all t keys (omega (arith, keys-long))
         ∙ sym (map-map key-of (east-of es) list)
 
-    pub cut-is : {said : Ranked} → Picks (take t (midOf t (length now - t) now)) (t / 2) said → number-of (said .key) ≡ rank (t / 2) (map (east-of es) list)
+    pub cut-is : {r : ℕ} {said : Ranked} → Picks (take t (midOf t (length now - t) now)) r said → number-of (said .key) ≡ rank r (map (east-of es) list)
     cut-is p = picked-number easts-words keys-behind p

@@ -1,34 +1,31 @@
 -- A step, part after part: its cut, its split, the chain of its left list, the chain of its right list, and both side by side at the front.
 -- Assumes nothing.
-use mathlib.Core.Path.{_≡_, refl, sym, ap, ap₂, _∙_, subst, subst₂}
+use mathlib.Core.Path.{_≡_, sym, ap, ap₂, _∙_, subst}
 use mathlib.Core.Logic.{inl, inr, ⊎-elim}
-use mathlib.Core.Bool.{Bool, true, false, _&&_}
-use mathlib.Core.List.{List, [], _∷_, _++_, map, map-map, List·Memᴰ, List·Memᴰ·cases-cons}
-use Prim.Native.Nat.{ℕ, _+_, _-_, _*_, _/_, _≤_, _<_}
+use mathlib.Core.Bool.{Bool, false, _&&_}
+use mathlib.Core.List.{List, [], _∷_, _++_, map, List·Memᴰ, List·Memᴰ·cases-cons}
+use Prim.Native.Nat.{ℕ, _+_, _-_, _*_, _≤_, _<_}
 use native.Mathlib.Nat.{le-refl}
 use native.Mathlib.Omega.{arith}
 use borrow.Rule.Slice.PartMut.{midOf, putMid, mid-len, same-len-mid, take-put}
 use lib.IntN.{ℤ}
 use lib.Signed.{_≤ℤ_, _<ℤ_, leZ, ltZ, <ℤ-≤ℤ-trans}
-use lib.ListN.{length, take, drop, set, length-take, length-map, length-drop}
+use lib.ListN.{length, take, drop, set, length-take, length-drop}
 use lib.Seq.{paste, length-paste, length-take-le, take-suc-set, take-take, take-add, take-append-le, drop-at, drop-drop}
 use Rattle.whole.specs.Laws.{≤ℤ-trans, le-test, lt-test}
 use Rattle.rules.specs.Lists.{those}
 use Rattle.rules.specs.Streams.{Stream}
 use Rattle.rules.specs.Chain.{Of}
-use Rattle.rules.specs.Picker.{rank}
-use Rattle.rules.specs.Bridge.{ends, spans}
 use Rattle.rules.specs.Step.{cut}
 use Rattle.outline.specs.Lists.{those-in, yes-both, not-both}
 use Rattle.outline.specs.Bridges.{BothSides, spans-is}
-use Rattle.outline.specs.Steps.{Ready, ready-two}
-use Rattle.rounds.specs.Rounds.{Found, found-in}
+use Rattle.rounds.specs.Rounds.{found-in}
 use Rattle.rounds.specs.Steps.{ready-spans}
 use Rattle.samples.specs.Positions.{at, east-of, Listed}
 use Rattle.step.specs.Parts.{CopyAsks, same-part, paste-front, paste-part}
-use Rattle.step.specs.Lists.{past, beyond-numbers}
-use Rattle.step.specs.Chaining.{Chainable, left-numbers, right-numbers, chain-numbers, left-chainable, right-chainable, chain-splits, left-half, right-half}
-use Rattle.step.specs.Stepping.{number-at, CutAsks, CutSays, SplitAsks, SplitAt, HalvesSay, ChainAsks, StepAsks, ChainIs}
+use Rattle.step.specs.Chaining.{Chainable, left-numbers, right-numbers, chain-numbers, left-chainable, right-chainable, chain-splits}
+use Rattle.step.specs.Stepping.{number-at, CutAsks, CutSays, SplitAsks, SplitAt, ChainAsks, StepAsks, ChainIs}
+use Rattle.step.specs.StepLists.{list-long, ready, two, is-cut, split-list, left-few, right-few}
 
 -- ---- parts that come back
 
@@ -66,8 +63,7 @@ module _ {es ns : List ℤ} {lower : Bool} {w : List ℕ} {t p q : ℕ} (asks : 
 -- the list is split: the right list stands at the front, and the left list behind it
 pub record Parts (es ns : List ℤ) (lower : Bool) (w : List ℕ) (t p q i j left right : ℕ) (w₂ : List ℕ) : Type 0 where
   pub asks : StepAsks es ns lower w t p q
-  pub found : Found (at es ns lower) (cut (map (at es ns lower) (take t w))) (take t w) (ends i j)
-  pub halves : HalvesSay es (take t w) i j left right w₂
+  pub split : SplitAt es ns lower (take t w) (cut (map (at es ns lower) (take t w))) i j left right w₂
   pub long : length w₂ ≡ length w
 
 -- in the place of the left list stands its chain, u corners
@@ -101,31 +97,12 @@ module _ {es ns : List ℤ} {lower : Bool} {w : List ℕ} {t p q : ℕ} (asks : 
   abbrev l : List ℕ
   l = take t w
 
-  room : 4 * t ≤ length w
-  room = asks .asks .room
-
-  list-long : length (take t w) ≡ t
-  list-long = length-take-le t w (omega (arith, room))
-
-  ready : Ready (map to l) (to p) (to q)
-  ready = asks .asks .chainable .ready (asks .far)
-
-  pub two : 2 ≤ t
-  two = omega (arith, ready-two ready, length-map l to, list-long)
-
-  at-cut : cut (map to l) ≡ rank (t / 2) (map (east-of es) l)
-  unfolding cut
-  at-cut = ap₂ rank (ap (λ (n : ℕ). n / 2) (length-map l to ∙ list-long)) (map-map (λ s. s .east) to l)
-
   pub cut-asks : CutAsks es w t
-  cut-asks = record { near = asks .asks .sampled .east-near; listed = asks .asks .listed; two = two; room = omega (arith, room) }
+  cut-asks = record { near = asks .asks .sampled .east-near; listed = asks .asks .listed; two = two asks; room = omega (arith, asks .asks .room) }
 
   -- ---- after the cut
 
   module _ {a : ℤ} {w₁ : List ℕ} (c : CutSays es w t a w₁) (long₁ : length w₁ ≡ length w) where
-    is-cut : a ≡ cut (map to l)
-    is-cut = c .is ∙ sym at-cut
-
     pub split-asks : SplitAsks es ns lower w₁ t p q
     split-asks =
         record {
@@ -133,10 +110,10 @@ module _ {es ns : List ℤ} {lower : Bool} {w : List ℕ} {t p q : ℕ} (asks : 
           listed = subst (Listed (length es)) (sym (c .same-list)) (asks .asks .listed);
           left-below = asks .asks .left-below;
           right-below = asks .asks .right-below;
-          left-given = subst (λ (k : List ℕ). List·Memᴰ (to p) (map to k)) (sym (c .same-list)) (ready .left .given);
-          right-given = subst (λ (k : List ℕ). List·Memᴰ (to q) (map to k)) (sym (c .same-list)) (ready .right .given);
-          two = two;
-          room = omega (arith, room, long₁);
+          left-given = subst (λ (k : List ℕ). List·Memᴰ (to p) (map to k)) (sym (c .same-list)) (ready asks .left .given);
+          right-given = subst (λ (k : List ℕ). List·Memᴰ (to q) (map to k)) (sym (c .same-list)) (ready asks .right .given);
+          two = two asks;
+          room = omega (arith, asks .asks .room, long₁);
         }
 
     -- the cut lies from p's east to below q's, so there is a bridge over it
@@ -144,25 +121,20 @@ module _ {es ns : List ℤ} {lower : Bool} {w : List ℕ} {t p q : ℕ} (asks : 
     over-cut e = not-both (yes-both (le-test from) (lt-test below)) e
       where
         sides : BothSides (Of (map to l)) a
-        sides = subst (BothSides (Of (map to l))) (sym is-cut) (spans-is (cut (map to l)) (map to l) (ready-spans ready))
+        sides = subst (BothSides (Of (map to l))) (sym (is-cut asks c)) (spans-is (cut (map to l)) (map to l) (ready-spans (ready asks)))
 
         from : east-of es p ≤ℤ a
-        from = ≤ℤ-trans (ready .left .least (sides .west) (sides .west-given)) (sides .at-most)
+        from = ≤ℤ-trans (ready asks .left .least (sides .west) (sides .west-given)) (sides .at-most)
 
         below : a <ℤ east-of es q
-        below = <ℤ-≤ℤ-trans (sides .above) (ready .right .most (sides .east) (sides .east-given))
+        below = <ℤ-≤ℤ-trans (sides .above) (ready asks .right .most (sides .east) (sides .east-given))
 
     -- ---- after the split
 
     pub parts : {i j left right : ℕ} {w₂ : List ℕ} → SplitAt es ns lower (take t w₁) a i j left right w₂ → length w₂ ≡ length w₁
         → Parts es ns lower w t p q i j left right w₂
     parts {i} {j} {left} {right} {w₂} s long₂ =
-        record {
-          asks = asks;
-          found = subst₂ (λ (z : ℤ) (k : List ℕ). Found to z k (ends i j)) is-cut (c .same-list) (s .found);
-          halves = subst (λ (k : List ℕ). HalvesSay es k i j left right w₂) (c .same-list) (s .halves);
-          long = long₂ ∙ long₁;
-        }
+        record { asks = asks; split = split-list asks c s; long = long₂ ∙ long₁ }
 
 module _ {es ns : List ℤ} {lower : Bool} {w : List ℕ} {t p q i j left right : ℕ} {w₂ : List ℕ} (s : Parts es ns lower w t p q i j left right w₂) where
   abbrev face : ℕ → Stream
@@ -174,25 +146,15 @@ module _ {es ns : List ℤ} {lower : Bool} {w : List ℕ} {t p q i j left right 
   abbrev all : List ℕ
   all = take t w
 
-  left-few : left ≤ t / 2
-  left-few =
-      subst₂ (λ (m n : ℕ). m ≤ n / 2) (sym (s .halves .left-count)) (list-long (s .asks))
-      (left-half face naming (s .asks .asks .chainable) (s .asks .far) (s .found))
-
-  right-few : right ≤ t - t / 2
-  right-few =
-      subst₂ (λ (m n : ℕ). m ≤ n - n / 2) (sym (s .halves .right-count)) (list-long (s .asks))
-      (right-half face naming (s .asks .asks .chainable) (s .asks .far) (s .found))
-
   pub left-less : left < t
-  left-less = omega (arith, left-few, two (s .asks))
+  left-less = omega (arith, left-few (s .asks) (s .split), two (s .asks))
 
   pub right-less : right < t
-  right-less = omega (arith, right-few, two (s .asks))
+  right-less = omega (arith, right-few (s .asks) (s .split), two (s .asks))
 
   -- there is room for both chains and both lists
   pub spare : 5 * right + left ≤ length w
-  spare = omega (arith, left-few, right-few, two (s .asks), s .asks .asks .room)
+  spare = omega (arith, left-few (s .asks) (s .split), right-few (s .asks) (s .split), two (s .asks), s .asks .asks .room)
 
   pub right-fits : right ≤ length w₂
   right-fits = omega (arith, spare, s .long)
@@ -204,15 +166,15 @@ module _ {es ns : List ℤ} {lower : Bool} {w : List ℕ} {t p q i j left right 
         listed = subst (Listed (length es)) (sym is) (listed-beyond (λ x. ltZ (face x .east) (face i .east)) below (s .asks .asks .listed));
         left-below = s .asks .asks .left-below;
         right-below = below;
-        chainable = subst (λ (k : List ℕ). Chainable face naming k p i) (sym is) (left-chainable face naming (s .asks .asks .chainable) (s .asks .far) (s .found));
-        room = omega (arith, left-few, right-few, s .asks .asks .room, s .long, mid-len right (length w₂) w₂ (le-refl (length w₂)));
+        chainable = subst (λ (k : List ℕ). Chainable face naming k p i) (sym is) (left-chainable face naming (s .asks .asks .chainable) (s .asks .far) (s .split .found));
+        room = omega (arith, left-few (s .asks) (s .split), right-few (s .asks) (s .split), s .asks .asks .room, s .long, mid-len right (length w₂) w₂ (le-refl (length w₂)));
       }
     where
       is : take left (midOf right (length w₂ - right) w₂) ≡ left-numbers face i all
-      is = part-front right left w₂ (omega (arith, spare, s .long)) ∙ s .halves .left-is
+      is = part-front right left w₂ (omega (arith, spare, s .long)) ∙ s .split .halves .left-is
 
       below : i < length es
-      below = s .asks .asks .listed .below i (found-in face (cut (map face all)) (s .found) .0)
+      below = s .asks .asks .listed .below i (found-in face (cut (map face all)) (s .split .found) .0)
 
   -- ---- after the chain of the left list
 
@@ -222,16 +184,16 @@ module _ {es ns : List ℤ} {lower : Bool} {w : List ℕ} {t p q i j left right 
   left-made {u} {ys} c long-ys =
       record {
         left-corners = put-part right (length w₂ - right) u w₂ ys right-fits (omega (arith, spare, s .long, few, part-long)) ∙ c .corners ∙ ap (chain-numbers face naming) is;
-        right-list = take-put right (length w₂ - right) w₂ ys right-fits ∙ s .halves .right-is;
+        right-list = take-put right (length w₂ - right) w₂ ys right-fits ∙ s .split .halves .right-is;
         few = few;
         long = same-len-mid right (length w₂ - right) w₂ ys long-ys ∙ s .long;
       }
     where
       is : take left (midOf right (length w₂ - right) w₂) ≡ left-numbers face i all
-      is = part-front right left w₂ (omega (arith, spare, s .long)) ∙ s .halves .left-is
+      is = part-front right left w₂ (omega (arith, spare, s .long)) ∙ s .split .halves .left-is
 
       few : u ≤ left
-      few = omega (arith, c .few, ap (λ (k : List ℕ). length k) is, s .halves .left-count)
+      few = omega (arith, c .few, ap (λ (k : List ℕ). length k) is, s .split .halves .left-count)
 
       part-long : length ys ≡ length w₂ - right
       part-long = long-ys ∙ mid-len right (length w₂) w₂ (le-refl (length w₂))
@@ -280,12 +242,12 @@ module _ {es ns : List ℤ} {lower : Bool} {w : List ℕ} {t p q i j left right 
           left-below = below;
           right-below = s .asks .asks .right-below;
           chainable = subst (λ (k : List ℕ). Chainable face naming k j q) (sym right-is)
-              (right-chainable face naming (s .asks .asks .chainable) (s .asks .far) (s .found));
+              (right-chainable face naming (s .asks .asks .chainable) (s .asks .far) (s .split .found));
           room = omega (arith, spare, m .long, m .few, mid-len (right + u) (length w₄) w₄ (le-refl (length w₄)));
         }
       where
         below : j < length es
-        below = s .asks .asks .listed .below j (found-in face (cut (map face all)) (s .found) .1)
+        below = s .asks .asks .listed .below j (found-in face (cut (map face all)) (s .split .found) .1)
 
     pub both-made : {v : ℕ} {zs : List ℕ} → ChainIs face naming (take right (midOf (right + u) (length w₄ - (right + u)) w₄)) v zs
         → length zs ≡ length (midOf (right + u) (length w₄ - (right + u)) w₄)
@@ -302,8 +264,8 @@ module _ {es ns : List ℤ} {lower : Bool} {w : List ℕ} {t p q i j left right 
               ∙ put-part (right + u) (length w₄ - (right + u)) v w₄ zs right-starts (omega (arith, spare, m .long, m .few, few, part-long))
               ∙ c .corners
               ∙ ap (chain-numbers face naming) right-is)
-              ∙ sym (chain-splits face naming (s .asks .asks .chainable) (s .asks .far) (s .found));
-          few = omega (arith, m .few, few, left-few, right-few);
+              ∙ sym (chain-splits face naming (s .asks .asks .chainable) (s .asks .far) (s .split .found));
+          few = omega (arith, m .few, few, left-few (s .asks) (s .split), right-few (s .asks) (s .split));
           inside = omega (arith, spare, m .few, few);
           long = long ∙ m .long;
         }
@@ -312,7 +274,7 @@ module _ {es ns : List ℤ} {lower : Bool} {w : List ℕ} {t p q i j left right 
         w₅ = putMid (right + u) (length w₄ - (right + u)) w₄ zs
 
         few : v ≤ right
-        few = omega (arith, c .few, ap (λ (k : List ℕ). length k) right-is, s .halves .right-count)
+        few = omega (arith, c .few, ap (λ (k : List ℕ). length k) right-is, s .split .halves .right-count)
 
         part-long : length zs ≡ length w₄ - (right + u)
         part-long = long-zs ∙ mid-len (right + u) (length w₄) w₄ (le-refl (length w₄))

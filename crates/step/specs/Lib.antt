@@ -5,3 +5,4 @@ pub mod Named
 pub mod Chaining
 pub mod Stepping
 pub mod First
+pub mod StepLists

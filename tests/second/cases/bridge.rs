@@ -2,7 +2,7 @@
 
 use super::{enough_scratch, fields, scratch};
 use crate::driver::{Case, Desk, Lent, BRIDGE};
-use crate::gen::{cut, input_a, samples, spoil_lengths, spoil_parts, too_many, Chance, Samples, KINDS};
+use crate::gen::{cut, input_a, of_every_kind, samples, spoil_lengths, spoil_parts, too_many, Chance, Samples};
 use crate::rules::chain::bridge;
 use crate::rules::{scratch_for, MOST};
 
@@ -39,7 +39,7 @@ pub fn cases(desk: &mut Desk) {
         let scratch = scratch(&mut chance, n);
         put(desk, words, samples, a, scratch);
     }
-    largest(desk, &mut chance);
+    largest(desk);
 }
 
 /// Short lists with a at, below and above every east.
@@ -54,13 +54,14 @@ fn every_cut(desk: &mut Desk, chance: &mut Chance) {
     }
 }
 
-fn largest(desk: &mut Desk, chance: &mut Chance) {
-    for (words, maker) in KINDS {
-        let samples = Samples::of(&maker(chance, MOST));
+/// 65,536 samples of every kind, and one more.
+pub fn largest(desk: &mut Desk) {
+    let mut chance = Chance::new(23);
+    for (words, samples) in of_every_kind(&mut chance, MOST) {
         let mut easts = samples.east.clone();
         easts.sort_unstable();
         for a in [easts[0], easts[MOST / 2], easts[MOST - 1] - 1, easts[MOST - 1]] {
-            let scratch = enough_scratch(chance, MOST);
+            let scratch = enough_scratch(&mut chance, MOST);
             put(desk, words, samples.clone(), a, scratch);
         }
     }

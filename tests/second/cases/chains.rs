@@ -2,7 +2,7 @@
 
 use super::{enough_scratch, fields, output_length, scratch};
 use crate::driver::{Case, Desk, Lent, CHAINS};
-use crate::gen::{input_a, samples, spoil_lengths, spoil_parts, too_many, Chance, Samples, KINDS};
+use crate::gen::{input_a, of_every_kind, of_some_kinds, samples, spoil_lengths, spoil_parts, too_many, Chance, Samples};
 use crate::rules::chain::{chains, chains_of};
 use crate::rules::{scratch_for, MOST};
 
@@ -41,10 +41,13 @@ pub fn cases(desk: &mut Desk) {
         let (upper, lower, scratch) = (chance.noise_u32(upper), chance.noise_u32(lower), scratch(&mut chance, n));
         put(desk, words, samples, upper, lower, scratch);
     }
-    largest(desk, &mut chance);
+    largest(desk);
+    for (words, samples) in of_some_kinds(&mut chance, MOST) {
+        every_output(desk, &mut chance, words, samples);
+    }
 }
 
-/// The outputs exactly long enough, one short in either and in both, and longer; the scratch exactly long enough and one short.
+/// The outputs exactly long enough, one short in either and in both, and longer, full of noise; the scratch exactly long enough and one short, full of noise.
 fn every_output(desk: &mut Desk, chance: &mut Chance, words: &'static str, samples: Samples) {
     let found = chains_of(&samples.positions());
     let (upper, lower) = (found.upper.len(), found.lower.len());
@@ -57,19 +60,19 @@ fn every_output(desk: &mut Desk, chance: &mut Chance, words: &'static str, sampl
     }
 }
 
-fn largest(desk: &mut Desk, chance: &mut Chance) {
-    for (words, maker) in KINDS {
-        let samples = Samples::of(&maker(chance, MOST));
+/// 65,536 samples of every kind, and one more.
+pub fn largest(desk: &mut Desk) {
+    let mut chance = Chance::new(24);
+    for (words, samples) in of_every_kind(&mut chance, MOST) {
         let found = chains_of(&samples.positions());
         let (upper, lower) = (chance.noise_u32(found.upper.len()), chance.noise_u32(found.lower.len()));
-        let scratch = enough_scratch(chance, MOST);
+        let scratch = enough_scratch(&mut chance, MOST);
         put(desk, words, samples, upper, lower, scratch);
     }
-    let samples = Samples::of(&crate::gen::tide(chance, MOST));
+    let samples = Samples::of(&crate::gen::tide(&mut chance, MOST));
     put(desk, "tide, whole outputs", samples.clone(), vec![8; MOST], vec![9; MOST], vec![7; scratch_for(MOST)]);
-    put(desk, "tide, no outputs", samples.clone(), Vec::new(), Vec::new(), vec![7; scratch_for(MOST)]);
-    put(desk, "tide, scratch one short", samples, vec![8; MOST], vec![9; MOST], vec![7; scratch_for(MOST) - 1]);
-    let long = Samples::of(&crate::gen::tide(chance, MOST + 1));
+    put(desk, "tide, no outputs", samples, Vec::new(), Vec::new(), vec![7; scratch_for(MOST)]);
+    let long = Samples::of(&crate::gen::tide(&mut chance, MOST + 1));
     put(desk, "one sample too many", long, vec![8; 9], vec![9; 9], vec![7; scratch_for(MOST + 1)]);
     for long in too_many() {
         put(desk, "too many samples, nothing else", long, Vec::new(), Vec::new(), Vec::new());

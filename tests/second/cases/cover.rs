@@ -2,7 +2,7 @@
 
 use super::fields;
 use crate::driver::{Case, Desk, Lent, COVER};
-use crate::gen::{almost_ring, input_a, large_ring, ring, spoil_lengths, spoil_parts, too_many, Chance, Samples};
+use crate::gen::{almost_ring, input_a, large_ring, ring, spoil_lengths, spoil_parts, too_many, Chance, Samples, MOST_CORNERS};
 use crate::rules::chain::{at, ring_of, Position};
 use crate::rules::using::cover;
 use crate::rules::{LIMIT, MOST};
@@ -64,10 +64,16 @@ pub fn cases(desk: &mut Desk) {
         }
         put(desk, words, ring, stream);
     }
-    let large = large_ring(45_000);
+    largest(desk);
+}
+
+/// Rings of as many corners as there is room for, and lists too long.
+pub fn largest(desk: &mut Desk) {
+    let mut chance = Chance::new(29);
+    let large = large_ring(MOST_CORNERS);
     for _ in 0..20 {
         let stream = stream(&mut chance, &large);
-        put(desk, "45,000 corners", Samples::of(&large), stream);
+        put(desk, "as many corners as there is room for", Samples::of(&large), stream);
     }
     put(desk, "most corners, no ring", Samples { east: vec![1; MOST], north: vec![1; MOST] }, (1, 1));
     for long in too_many() {

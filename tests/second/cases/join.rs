@@ -2,7 +2,7 @@
 
 use super::{enough_scratch, fields, output_length, scratch};
 use crate::driver::{Case, Desk, Lent, JOIN};
-use crate::gen::{almost_ring, large_ring, ring, spoil_lengths, spoil_parts, too_many, Chance, Samples};
+use crate::gen::{almost_ring, large_ring, of_every_kind, ring, spoil_lengths, spoil_parts, too_many, Chance, Samples};
 use crate::rules::chain::{at, ring_of, Position};
 use crate::rules::using::{join, joined};
 use crate::rules::{scratch_for, MOST};
@@ -80,7 +80,7 @@ pub fn cases(desk: &mut Desk) {
     for _ in 0..12_000 {
         grouping(desk, &mut chance);
     }
-    largest(desk, &mut chance);
+    largest(desk);
 }
 
 fn pair(desk: &mut Desk, chance: &mut Chance) {
@@ -123,11 +123,19 @@ fn grouping(desk: &mut Desk, chance: &mut Chance) {
     }
 }
 
-fn largest(desk: &mut Desk, chance: &mut Chance) {
+/// The rings of both halves of 65,536 samples of every kind; 65,536 joined corners, and one more.
+pub fn largest(desk: &mut Desk) {
+    let mut chance = Chance::new(31);
+    for (words, samples) in of_every_kind(&mut chance, MOST) {
+        let positions = samples.positions();
+        let (first, second) = (ring_of(&positions[..MOST / 2]), ring_of(&positions[MOST / 2..]));
+        let outputs = exactly_enough(&mut chance, &first, &second);
+        put(desk, words, Samples::of(&first), Samples::of(&second), outputs);
+    }
     let half = large_ring(MOST / 2);
     let moved: Vec<Position> = half.iter().map(|p| at(p.east + 1000, p.north - 77)).collect();
     for second in [&half, &moved] {
-        let outputs = exactly_enough(chance, &half, second);
+        let outputs = exactly_enough(&mut chance, &half, second);
         put(desk, "65,536 joined corners", Samples::of(&half), Samples::of(second), outputs);
     }
     let corners = joined(&half, &moved).len();

@@ -50,7 +50,7 @@ pub fn cases(desk: &mut Desk) {
         let (numbers, scratch) = (maker(&mut chance, n), scratch(&mut chance, n));
         put(desk, words, numbers, rank, scratch);
     }
-    largest(desk, &mut chance);
+    largest(desk);
 }
 
 fn every_rank(desk: &mut Desk, chance: &mut Chance) {
@@ -78,22 +78,24 @@ fn ranks_at_the_ends(desk: &mut Desk, chance: &mut Chance) {
     }
 }
 
-fn largest(desk: &mut Desk, chance: &mut Chance) {
+/// 65,536 numbers of every kind, and one more.
+pub fn largest(desk: &mut Desk) {
+    let mut chance = Chance::new(21);
     for (words, maker) in KINDS {
-        let numbers = maker(chance, MOST);
+        let numbers = maker(&mut chance, MOST);
         for rank in [1, MOST / 2, MOST] {
-            let scratch = enough_scratch(chance, MOST);
+            let scratch = enough_scratch(&mut chance, MOST);
             put(desk, words, numbers.clone(), rank, scratch);
         }
     }
     let (_, maker) = KINDS[4];
-    let most = maker(chance, MOST);
+    let most = maker(&mut chance, MOST);
     put(desk, "most numbers, scratch short", most.clone(), 1, vec![5; scratch_for(MOST) - 1]);
     put(desk, "most numbers, rank beyond", most, MOST + 1, vec![5; scratch_for(MOST)]);
     for rank in [0, 1, MOST, MOST + 1, MOST + 2] {
-        let (numbers, scratch) = (maker(chance, MOST + 1), enough_scratch(chance, MOST + 1));
+        let (numbers, scratch) = (maker(&mut chance, MOST + 1), enough_scratch(&mut chance, MOST + 1));
         put(desk, "one number too many", numbers, rank, scratch);
     }
-    let numbers = maker(chance, MOST + 1);
+    let numbers = maker(&mut chance, MOST + 1);
     put(desk, "one number too many, no scratch", numbers, 1, Vec::new());
 }

@@ -72,7 +72,7 @@ pub fn cases(desk: &mut Desk) {
         let (out_east, out_north) = (chance.noise_i32(out_east), chance.noise_i32(out_north));
         put(desk, "readings by chance", lists, out_east, out_north);
     }
-    largest(desk, &mut chance);
+    largest(desk);
 }
 
 fn bad_in_every_place(desk: &mut Desk, chance: &mut Chance) {
@@ -96,7 +96,9 @@ fn bad_in_every_place(desk: &mut Desk, chance: &mut Chance) {
     }
 }
 
-fn largest(desk: &mut Desk, chance: &mut Chance) {
+/// 65,536 readings, and one more.
+pub fn largest(desk: &mut Desk) {
+    let chance = &mut Chance::new(33);
     let mut lists = good_lists(chance, MOST);
     put(desk, "most readings", lists.clone(), vec![8; MOST], vec![9; MOST]);
     put(desk, "most readings, output one short", lists.clone(), vec![8; MOST - 1], vec![9; MOST]);

@@ -2,7 +2,7 @@
 
 use super::{fields, output_length};
 use crate::driver::{Case, Desk, Lent, RECORD};
-use crate::gen::{almost_ring, input_a, large_ring, ring, spoil_parts, Chance, Samples};
+use crate::gen::{almost_ring, input_a, large_ring, ring, spoil_parts, Chance, Samples, MOST_CORNERS};
 use crate::rules::chain::{at, ring_of};
 use crate::rules::record::{record, record_of, HEAD};
 use crate::rules::MOST;
@@ -47,7 +47,7 @@ pub fn cases(desk: &mut Desk) {
         let (out_east, out_north) = (chance.noise_i32(out_east), chance.noise_i32(out_north));
         put(desk, words, record_of(&ring.positions()), out_east, out_north);
     }
-    largest(desk, &mut chance);
+    largest(desk);
 }
 
 /// A record cut at every length, with bytes too many, with each bit of its head flipped and some others.
@@ -98,12 +98,14 @@ fn by_chance(desk: &mut Desk, chance: &mut Chance) {
     }
 }
 
-fn largest(desk: &mut Desk, chance: &mut Chance) {
-    let bytes = record_of(&large_ring(45_000));
-    for (out_east, out_north) in [(45_000, 45_000), (44_999, 45_000), (45_000, 44_999), (45_001, 65_537)] {
-        put(desk, "45,000 corners", bytes.clone(), vec![8; out_east], vec![9; out_north]);
+/// Records of as many corners as there is room for, and of too many.
+pub fn largest(desk: &mut Desk) {
+    let chance = &mut Chance::new(34);
+    let (enough, bytes) = (MOST_CORNERS, record_of(&large_ring(MOST_CORNERS)));
+    for (out_east, out_north) in [(enough, enough), (enough - 1, enough), (enough, enough - 1), (enough + 1, MOST + 1)] {
+        put(desk, "as many corners as there is room for", bytes.clone(), vec![8; out_east], vec![9; out_north]);
     }
-    put_enough(desk, chance, "45,000 corners, one byte missing", bytes[..bytes.len() - 1].to_vec());
+    put_enough(desk, chance, "as many corners as there is room for, one byte missing", bytes[..bytes.len() - 1].to_vec());
     let too_many = record_of(&vec![at(5, 5); MOST + 1]);
     put_enough(desk, chance, "one corner too many, one byte missing", too_many[..too_many.len() - 1].to_vec());
     put_enough(desk, chance, "one corner too many, of another version", [&[0], &too_many[1..]].concat());

@@ -2,7 +2,7 @@
 
 use super::{enough_scratch, fields, output_length, scratch};
 use crate::driver::{Case, Desk, Lent, RING};
-use crate::gen::{input_a, large_ring, samples, spoil_lengths, spoil_parts, too_many, Chance, Samples, KINDS};
+use crate::gen::{input_a, of_every_kind, of_some_kinds, samples, spoil_lengths, spoil_parts, too_many, Chance, Samples};
 use crate::rules::chain::{ring, ring_of};
 use crate::rules::{scratch_for, MOST};
 
@@ -41,10 +41,13 @@ pub fn cases(desk: &mut Desk) {
         let (out_east, out_north, scratch) = (chance.noise_i32(out_east), chance.noise_i32(out_north), scratch(&mut chance, n));
         put(desk, words, samples, out_east, out_north, scratch);
     }
-    largest(desk, &mut chance);
+    largest(desk);
+    for (words, samples) in of_some_kinds(&mut chance, MOST) {
+        every_output(desk, &mut chance, words, samples);
+    }
 }
 
-/// The outputs exactly long enough, one short in either and in both, and longer; the scratch exactly long enough and one short.
+/// The outputs exactly long enough, one short in either and in both, and longer, full of noise; the scratch exactly long enough and one short, full of noise.
 fn every_output(desk: &mut Desk, chance: &mut Chance, words: &'static str, samples: Samples) {
     let enough = ring_of(&samples.positions()).len();
     let short = enough.saturating_sub(1);
@@ -56,22 +59,15 @@ fn every_output(desk: &mut Desk, chance: &mut Chance, words: &'static str, sampl
     }
 }
 
-fn largest(desk: &mut Desk, chance: &mut Chance) {
-    for (words, maker) in KINDS {
-        let samples = Samples::of(&maker(chance, MOST));
+/// 65,536 samples of every kind, and one more.
+pub fn largest(desk: &mut Desk) {
+    let mut chance = Chance::new(25);
+    for (words, samples) in of_every_kind(&mut chance, MOST) {
         let corners = ring_of(&samples.positions()).len();
-        let (out_east, out_north, scratch) = (chance.noise_i32(corners), chance.noise_i32(corners), enough_scratch(chance, MOST));
+        let (out_east, out_north, scratch) = (chance.noise_i32(corners), chance.noise_i32(corners), enough_scratch(&mut chance, MOST));
         put(desk, words, samples, out_east, out_north, scratch);
     }
-    // a ring of very many corners, out of order and with repeats
-    let mut many = large_ring(45_000);
-    many.extend_from_within(..MOST - 45_000);
-    chance.shuffle(&mut many);
-    let samples = Samples::of(&many);
-    put(desk, "45,000 corners", samples.clone(), vec![8; 45_000], vec![9; 45_001], vec![7; scratch_for(MOST)]);
-    put(desk, "45,000 corners, one output short", samples.clone(), vec![8; 45_000], vec![9; 44_999], vec![7; scratch_for(MOST)]);
-    put(desk, "45,000 corners, scratch one short", samples, vec![8; 45_000], vec![9; 45_000], vec![7; scratch_for(MOST) - 1]);
-    let long = Samples::of(&crate::gen::tide(chance, MOST + 1));
+    let long = Samples::of(&crate::gen::tide(&mut chance, MOST + 1));
     put(desk, "one sample too many", long, vec![8; 9], vec![9; 9], vec![7; scratch_for(MOST + 1)]);
     for long in too_many() {
         put(desk, "too many samples, nothing else", long, Vec::new(), Vec::new(), Vec::new());

@@ -2,7 +2,7 @@
 
 use super::{enough_scratch, fields, output_length, scratch};
 use crate::driver::{Case, Desk, Lent, ROUND};
-use crate::gen::{cut, input_a, samples, spoil_lengths, spoil_parts, too_many, Chance, Samples, KINDS};
+use crate::gen::{cut, input_a, of_every_kind, samples, spoil_lengths, spoil_parts, too_many, Chance, Samples};
 use crate::rules::round::{round, said, Said};
 use crate::rules::{has_bridge, LIMIT, MOST};
 
@@ -97,7 +97,7 @@ pub fn cases(desk: &mut Desk) {
             round.put_all(desk, &mut chance);
         }
     }
-    largest(desk, &mut chance);
+    largest(desk);
 }
 
 fn soundings(desk: &mut Desk, chance: &mut Chance) {
@@ -147,25 +147,26 @@ fn spoiled(desk: &mut Desk, chance: &mut Chance, mut round: Round) {
     round.put(desk, output, scratch);
 }
 
-fn largest(desk: &mut Desk, chance: &mut Chance) {
-    for (words, maker) in KINDS {
-        let samples = Samples::of(&maker(chance, MOST));
+/// 65,536 samples of every kind, and as many list items; and one more.
+pub fn largest(desk: &mut Desk) {
+    let mut chance = Chance::new(22);
+    for (words, samples) in of_every_kind(&mut chance, MOST) {
         let mut easts = samples.east.clone();
         easts.sort_unstable();
         let list: Vec<u32> = (0..MOST as u32).collect();
-        Round { words, samples, list, a: easts[MOST / 3] }.put_all(desk, chance);
+        Round { words, samples, list, a: easts[MOST / 3] }.put_all(desk, &mut chance);
     }
-    let (_, samples) = samples(chance, 10);
+    let (_, samples) = samples(&mut chance, 10);
     let list = |length: usize| (0..length).map(|place| place as u32 % 10).collect();
     let exact = |length: usize| Round { words: "few samples, most list items or one more", samples: samples.clone(), list: list(length), a: 0 };
-    exact(MOST).put_all(desk, chance);
+    exact(MOST).put_all(desk, &mut chance);
     exact(MOST + 1).put(desk, vec![9; MOST], vec![7; 16 * (MOST + 1) + 64]);
     for long in too_many() {
         Round { words: "too many samples", samples: long.clone(), list: vec![0, 1, 2], a: 3 }.put(desk, vec![9; 3], vec![7; 200]);
         Round { words: "too many samples, a bad number, no scratch", samples: long, list: vec![u32::MAX], a: 3 }.put(desk, Vec::new(), Vec::new());
     }
     let mut spoilt = samples.clone();
-    spoil_parts(chance, &mut spoilt);
+    spoil_parts(&mut chance, &mut spoilt);
     for samples in [samples, spoilt] {
         let list = vec![10; MOST + 1];
         Round { words: "too many list items, bad ones", samples, list, a: 0 }.put(desk, Vec::new(), Vec::new());

@@ -2,7 +2,7 @@
 
 use super::fields;
 use crate::driver::{Case, Desk, Lent, STRONGEST};
-use crate::gen::{almost_ring, input_a, large_ring, ring, spoil_lengths, spoil_parts, too_many, Chance, Samples};
+use crate::gen::{almost_ring, input_a, large_ring, ring, spoil_lengths, spoil_parts, too_many, Chance, Samples, MOST_CORNERS};
 use crate::rules::chain::{ring_of, Position};
 use crate::rules::using::strongest;
 use crate::rules::{LIMIT, MOST};
@@ -72,10 +72,16 @@ pub fn cases(desk: &mut Desk) {
         }
         put(desk, words, ring, course);
     }
-    let large = large_ring(45_000);
+    largest(desk);
+}
+
+/// Rings of as many corners as there is room for, and lists too long.
+pub fn largest(desk: &mut Desk) {
+    let mut chance = Chance::new(28);
+    let large = large_ring(MOST_CORNERS);
     for _ in 0..20 {
         let course = course(&mut chance, &large);
-        put(desk, "45,000 corners", Samples::of(&large), course);
+        put(desk, "as many corners as there is room for", Samples::of(&large), course);
     }
     put(desk, "most corners, no ring", Samples { east: vec![1; MOST], north: vec![1; MOST] }, (1, 1));
     for long in too_many() {

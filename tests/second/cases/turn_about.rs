@@ -2,7 +2,7 @@
 
 use super::{fields, output_length};
 use crate::driver::{Case, Desk, Lent, TURN_ABOUT};
-use crate::gen::{almost_ring, large_ring, ring, spoil_lengths, spoil_parts, too_many, Chance, Samples};
+use crate::gen::{almost_ring, large_ring, ring, spoil_lengths, spoil_parts, too_many, Chance, Samples, MOST_CORNERS};
 use crate::rules::using::turn_about;
 use crate::rules::MOST;
 
@@ -35,9 +35,14 @@ pub fn cases(desk: &mut Desk) {
         let (out_east, out_north) = (chance.noise_i32(out_east), chance.noise_i32(out_north));
         put(desk, words, ring, out_east, out_north);
     }
-    let large = Samples::of(&large_ring(45_000));
-    for (out_east, out_north) in [(45_000, 45_000), (44_999, 45_000), (45_000, 44_999), (45_001, 65_537)] {
-        put(desk, "45,000 corners", large.clone(), vec![8; out_east], vec![9; out_north]);
+    largest(desk);
+}
+
+/// Rings of as many corners as there is room for, and lists too long.
+pub fn largest(desk: &mut Desk) {
+    let (enough, large) = (MOST_CORNERS, Samples::of(&large_ring(MOST_CORNERS)));
+    for (out_east, out_north) in [(enough, enough), (enough - 1, enough), (enough, enough - 1), (enough + 1, MOST + 1)] {
+        put(desk, "as many corners as there is room for", large.clone(), vec![8; out_east], vec![9; out_north]);
     }
     put(desk, "most corners, no ring", Samples { east: vec![1; MOST], north: vec![1; MOST] }, vec![8; MOST], vec![9; MOST]);
     for long in too_many() {

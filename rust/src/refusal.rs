@@ -1,0 +1,113 @@
+//! Numbers for no.
+
+use std::error::Error;
+use std::fmt;
+
+/// A refusal: its number, and its place, which is 0 where the number names none.
+///
+/// | No. | Given exactly when | Place |
+/// |---|---|---|
+/// | 1 | the two lists differ in length | |
+/// | 2 | over 65,536 samples, list items, corners or joined corners | |
+/// | 3 | a part beyond the limit | first place; 0 for a course or single stream |
+/// | 4 | scratch too short | |
+/// | 5 | an output list shorter than the result | |
+/// | 6 | no bridge over a | |
+/// | 7 | a listed number not below the sample count | first list place |
+/// | 8 | rank 0 or above n | |
+/// | 9 | not an envelope | |
+/// | 10 | empty ring given to hand or strongest set; a hand whose place is not below its count | |
+/// | 11 | course (0, 0) | |
+/// | 12, 13, 14 | float door: not a number, beyond the limit, a fraction | reading |
+/// | 16 | version not 1 | |
+/// | 17 | under 5 bytes, or length not a multiple of 8, or not the bytes that follow | |
+/// | 18 | a chain step's list has no bridge over its a | |
+///
+/// A refusal alters nothing that was lent, except that 5 and 18 of a function with scratch leave all the scratch zero.
+#[derive(Clone, Copy, Debug, PartialEq, Eq, Hash)]
+pub struct Refusal {
+    /// The number for no.
+    pub number: u32,
+    /// The place.
+    pub place: usize,
+}
+
+/// A refusal of the float door, with the float that it hands back: 13 and 14 hand back the offending float itself, the others nothing.
+#[derive(Clone, Copy, Debug, PartialEq)]
+pub struct DoorRefusal {
+    /// The number for no.
+    pub number: u32,
+    /// The place: the reading.
+    pub place: usize,
+    /// The offending float.
+    pub back: Option<f64>,
+}
+
+impl From<DoorRefusal> for Refusal {
+    fn from(door: DoorRefusal) -> Refusal {
+        Refusal { number: door.number, place: door.place }
+    }
+}
+
+impl Refusal {
+    /// What the number says, in the words of the rules.
+    pub fn words(&self) -> &'static str {
+        match self.number {
+            1 => "the two lists differ in length",
+            2 => "over 65,536 samples, list items, corners or joined corners",
+            3 => "a part beyond the limit",
+            4 => "scratch too short",
+            5 => "an output list shorter than the result",
+            6 => "no bridge over a",
+            7 => "a listed number not below the sample count",
+            8 => "rank 0 or above n",
+            9 => "not an envelope",
+            10 => "an empty ring, or a hand whose place is not below its count",
+            11 => "course (0, 0)",
+            12 => "not a number",
+            13 => "a float beyond the limit",
+            14 => "a fraction",
+            16 => "version not 1",
+            17 => "under 5 bytes, or length not a multiple of 8, or not the bytes that follow",
+            18 => "a chain step's list has no bridge over its a",
+            _ => "no number of the rules",
+        }
+    }
+}
+
+impl fmt::Display for Refusal {
+    fn fmt(&self, f: &mut fmt::Formatter<'_>) -> fmt::Result {
+        write!(f, "refused {} {}: {}", self.number, self.place, self.words())
+    }
+}
+
+impl fmt::Display for DoorRefusal {
+    fn fmt(&self, f: &mut fmt::Formatter<'_>) -> fmt::Result {
+        Refusal::from(*self).fmt(f)?;
+        match self.back {
+            Some(float) => write!(f, ": {float}"),
+            None => Ok(()),
+        }
+    }
+}
+
+impl Error for Refusal {}
+
+impl Error for DoorRefusal {}
+
+/// What a call gives: the value if the number is 0, and otherwise the refusal.
+pub(crate) fn unless_refused<T>(number: u32, place: usize, value: T) -> Result<T, Refusal> {
+    match number {
+        0 => Ok(value),
+        _ => Err(Refusal { number, place }),
+    }
+}
+
+/// The same for the float door.
+pub(crate) fn unless_refused_at_the_door<T>(number: u32, place: usize, back: f64, value: T) -> Result<T, DoorRefusal> {
+    match number {
+        0 => Ok(value),
+        13 | 14 => Err(DoorRefusal { number, place, back: Some(back) }),
+        _ => Err(DoorRefusal { number, place, back: None }),
+    }
+}

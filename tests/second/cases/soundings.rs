@@ -1,0 +1,267 @@
+//! The soundings that are run, at every entry that they concern: part 1,000,000 taken, 1,000,001 refused 3; float 1000000.5 refused 13, 0.5 refused 14; 65,536
+//! samples taken, 65,537 refused 2. What is wanted stands here as the page of the rules has it; the rules of this program are not asked.
+
+use crate::driver::{
+    Case, Desk, Entry, Lent, BRIDGE, CHAINS, COVER, HAND_FOR, HAND_STEP, JOIN, PART, PICK, READINGS, RECORD, RING, ROUND, STRONGEST, TURN_ABOUT,
+};
+use crate::gen::{large_ring, Samples};
+use crate::rules::chain::at;
+use crate::rules::record::record_of;
+use crate::rules::scratch_for;
+
+const PART_TAKEN: &str = "part 1,000,000 taken";
+const PART_REFUSED: &str = "1,000,001 refused 3";
+const SAMPLES_TAKEN: &str = "65,536 samples taken";
+const SAMPLES_REFUSED: &str = "65,537 refused 2";
+const CORNERS_NOT_REFUSED: &str = "65,536 corners not refused 2";
+const MOST: usize = 65_536;
+
+/// A call, and what it leaves: every slice as it was lent but the ones named.
+struct Call {
+    entry: &'static Entry,
+    scalars: Vec<i64>,
+    lent: Vec<Lent>,
+}
+
+impl Call {
+    fn leaves(self, desk: &mut Desk, words: &'static str, said: &[i64], altered: Vec<(usize, Lent)>) {
+        let Call { entry, scalars, lent } = self;
+        desk.put(Case { entry, words, scalars, lent, said: said.to_vec(), altered });
+    }
+
+    /// Refused with a number and a place; every other field is 0, and nothing lent is altered.
+    fn refused(self, desk: &mut Desk, words: &'static str, number: i64, place: i64) {
+        let mut said = vec![0; self.entry.fields.len()];
+        (said[0], said[1]) = (number, place);
+        self.leaves(desk, words, &said, Vec::new());
+    }
+}
+
+fn i32s(list: &[i32]) -> Lent {
+    Lent::I32(list.to_vec())
+}
+
+fn u32s(list: &[u32]) -> Lent {
+    Lent::U32(list.to_vec())
+}
+
+/// Scratch for so many, as it is lent and as it is left.
+fn scratch(count: usize) -> Lent {
+    Lent::U32(vec![7; scratch_for(count)])
+}
+
+fn cleared(count: usize) -> Lent {
+    Lent::U32(vec![0; scratch_for(count)])
+}
+
+/// Two samples with parts at the limit, the right one first. As a ring it is none; the other way round it is one.
+fn at_limit() -> (Lent, Lent) {
+    (i32s(&[1_000_000, -1_000_000]), i32s(&[-1_000_000, 1_000_000]))
+}
+
+fn ring_at_limit() -> (Lent, Lent) {
+    (i32s(&[-1_000_000, 1_000_000]), i32s(&[1_000_000, -1_000_000]))
+}
+
+/// Two streams of which one has a part just beyond the limit, and its place.
+fn beyond_limit() -> Vec<(Lent, Lent, i64)> {
+    let mut lists = Vec::new();
+    for part in [1_000_001, -1_000_001] {
+        lists.push((i32s(&[part, 0]), i32s(&[0, 0]), 0));
+        lists.push((i32s(&[0, part]), i32s(&[0, 0]), 1));
+        lists.push((i32s(&[0, 0]), i32s(&[part, 0]), 0));
+        lists.push((i32s(&[0, 0]), i32s(&[0, part]), 1));
+    }
+    lists
+}
+
+/// So many samples on one line, from west to east.
+fn many(count: usize) -> (Lent, Lent) {
+    (Lent::I32((0..count as i32).collect()), Lent::I32(vec![-5; count]))
+}
+
+pub fn pick(desk: &mut Desk) {
+    let call = |numbers: Vec<i32>, rank| {
+        let scratch = scratch(numbers.len());
+        Call { entry: &PICK, scalars: vec![rank], lent: vec![Lent::I32(numbers), scratch] }
+    };
+    let wide = || vec![1_000_001, i32::MIN, i32::MAX];
+    call(wide(), 2).leaves(desk, "numbers of any size taken", &[0, 0, 1_000_001], vec![(1, cleared(3))]);
+    call((0..65_536).rev().collect(), 65_536).leaves(desk, "65,536 numbers taken", &[0, 0, 65_535], vec![(1, cleared(MOST))]);
+    call((0..65_537).collect(), 1).refused(desk, SAMPLES_REFUSED, 2, 0);
+}
+
+pub fn round(desk: &mut Desk) {
+    let call = |(east, north): (Lent, Lent), list: Vec<u32>, a| {
+        let scratch = scratch(list.len());
+        Call { entry: &ROUND, scalars: vec![a], lent: vec![east, north, Lent::U32(list), u32s(&[9, 9]), scratch] }
+    };
+    call(at_limit(), vec![0, 1], 0).leaves(desk, PART_TAKEN, &[0, 0, 1, 1, 0, 0], vec![(4, cleared(2))]);
+    for (east, north, place) in beyond_limit() {
+        call((east, north), vec![0, 1], 0).refused(desk, PART_REFUSED, 3, place);
+    }
+    call(many(MOST), vec![3, 65_535], 3).leaves(desk, SAMPLES_TAKEN, &[0, 0, 1, 3, 65_535, 0], vec![(4, cleared(2))]);
+    call(many(MOST + 1), vec![3, 65_535], 3).refused(desk, SAMPLES_REFUSED, 2, 0);
+    // on one line the ends of the list are farthest along every slope
+    let all = |count: u32| (0..count).map(|number| number % 65_536).collect::<Vec<u32>>();
+    call(many(MOST), all(65_536), 3).leaves(desk, "65,536 list items taken", &[0, 0, 1, 0, 65_535, 0], vec![(4, cleared(MOST))]);
+    call(many(MOST), all(65_537), 3).refused(desk, "65,537 list items refused 2", 2, 0);
+}
+
+pub fn bridge(desk: &mut Desk) {
+    let call = |(east, north): (Lent, Lent), count, a| Call { entry: &BRIDGE, scalars: vec![a], lent: vec![east, north, scratch(count)] };
+    call(at_limit(), 2, 999_999).leaves(desk, PART_TAKEN, &[0, 0, 1, 0], vec![(2, cleared(2))]);
+    for (east, north, place) in beyond_limit() {
+        call((east, north), 2, 0).refused(desk, PART_REFUSED, 3, place);
+    }
+    call(many(MOST), MOST, 40_000).leaves(desk, SAMPLES_TAKEN, &[0, 0, 0, 65_535], vec![(2, cleared(MOST))]);
+    call(many(MOST + 1), MOST + 1, 40_000).refused(desk, SAMPLES_REFUSED, 2, 0);
+}
+
+pub fn chains(desk: &mut Desk) {
+    let call = |(east, north): (Lent, Lent), count| Call {
+        entry: &CHAINS,
+        scalars: Vec::new(),
+        lent: vec![east, north, u32s(&[8, 8, 8]), u32s(&[9, 9, 9]), scratch(count)],
+    };
+    let both = |left, right, count| vec![(2, u32s(&[left, right, 8])), (3, u32s(&[left, right, 9])), (4, cleared(count))];
+    call(at_limit(), 2).leaves(desk, PART_TAKEN, &[0, 0, 2, 2], both(1, 0, 2));
+    for (east, north, place) in beyond_limit() {
+        call((east, north), 2).refused(desk, PART_REFUSED, 3, place);
+    }
+    call(many(MOST), MOST).leaves(desk, SAMPLES_TAKEN, &[0, 0, 2, 2], both(0, 65_535, MOST));
+    call(many(MOST + 1), MOST + 1).refused(desk, SAMPLES_REFUSED, 2, 0);
+}
+
+pub fn ring(desk: &mut Desk) {
+    let call = |(east, north): (Lent, Lent), count| Call {
+        entry: &RING,
+        scalars: Vec::new(),
+        lent: vec![east, north, i32s(&[8, 8, 8]), i32s(&[9, 9, 9]), scratch(count)],
+    };
+    let left = vec![(2, i32s(&[-1_000_000, 1_000_000, 8])), (3, i32s(&[1_000_000, -1_000_000, 9])), (4, cleared(2))];
+    call(at_limit(), 2).leaves(desk, PART_TAKEN, &[0, 0, 2], left);
+    for (east, north, place) in beyond_limit() {
+        call((east, north), 2).refused(desk, PART_REFUSED, 3, place);
+    }
+    let left = vec![(2, i32s(&[0, 65_535, 8])), (3, i32s(&[-5, -5, 9])), (4, cleared(MOST))];
+    call(many(MOST), MOST).leaves(desk, SAMPLES_TAKEN, &[0, 0, 2], left);
+    call(many(MOST + 1), MOST + 1).refused(desk, SAMPLES_REFUSED, 2, 0);
+}
+
+pub fn hand(desk: &mut Desk) {
+    let made = |corners| Call { entry: &HAND_FOR, scalars: vec![corners], lent: Vec::new() };
+    made(65_536).leaves(desk, "65,536 corners taken", &[0, 0, 65_536, 0], Vec::new());
+    made(65_537).refused(desk, SAMPLES_REFUSED, 2, 0);
+    let stepped = |count, place| Call { entry: &HAND_STEP, scalars: vec![count, place], lent: Vec::new() };
+    stepped(65_536, 65_535).leaves(desk, "65,536 corners taken", &[0, 0, 65_535, 0, 65_536, 0], Vec::new());
+    stepped(65_537, 65_535).leaves(desk, SAMPLES_REFUSED, &[2, 0, 0, 0, 65_537, 65_535], Vec::new());
+}
+
+/// An entry that is given a ring and a course or a stream, on which a ring with parts at the limit answers as said. No ring has 65,536 corners, so such a
+/// list is refused, and not for its length.
+fn ring_and_stream(desk: &mut Desk, entry: &'static Entry, said: &[i64]) {
+    let call = |(east, north): (Lent, Lent), x, y| Call { entry, scalars: vec![x, y], lent: vec![east, north] };
+    call(ring_at_limit(), 1_000_000, -1_000_000).leaves(desk, PART_TAKEN, said, Vec::new());
+    for (east, north, place) in beyond_limit() {
+        call((east, north), 1, 1).refused(desk, PART_REFUSED, 3, place);
+    }
+    for part in [1_000_001, -1_000_001] {
+        call(ring_at_limit(), part, 1).refused(desk, PART_REFUSED, 3, 0);
+        call(ring_at_limit(), 1, part).refused(desk, PART_REFUSED, 3, 0);
+    }
+    call(many(MOST), 1, 1).refused(desk, CORNERS_NOT_REFUSED, 9, 0);
+    call(many(MOST + 1), 1, 1).refused(desk, SAMPLES_REFUSED, 2, 0);
+}
+
+pub fn strongest(desk: &mut Desk) {
+    ring_and_stream(desk, &STRONGEST, &[0, 0, 2_000_000_000_000, 1]);
+}
+
+pub fn cover(desk: &mut Desk) {
+    ring_and_stream(desk, &COVER, &[0, 0, 0]);
+}
+
+pub fn turn_about(desk: &mut Desk) {
+    let call =
+        |(east, north): (Lent, Lent)| Call { entry: &TURN_ABOUT, scalars: Vec::new(), lent: vec![east, north, i32s(&[8, 8, 8]), i32s(&[9, 9, 9])] };
+    let left = vec![(2, i32s(&[-1_000_000, 1_000_000, 8])), (3, i32s(&[1_000_000, -1_000_000, 9]))];
+    call(ring_at_limit()).leaves(desk, PART_TAKEN, &[0, 0, 2], left);
+    for (east, north, place) in beyond_limit() {
+        call((east, north)).refused(desk, PART_REFUSED, 3, place);
+    }
+    call(many(MOST)).refused(desk, CORNERS_NOT_REFUSED, 9, 0);
+    call(many(MOST + 1)).refused(desk, SAMPLES_REFUSED, 2, 0);
+}
+
+pub fn join(desk: &mut Desk) {
+    let call = |(east, north): (Lent, Lent), (east2, north2): (Lent, Lent), room: usize, count| {
+        let outputs = [Lent::I32(vec![8; room]), Lent::I32(vec![9; room]), scratch(count)];
+        Call { entry: &JOIN, scalars: Vec::new(), lent: [east, north, east2, north2].into_iter().chain(outputs).collect() }
+    };
+    let one = || (i32s(&[1_000_000]), i32s(&[-1_000_000]));
+    let left = vec![(4, i32s(&[-1_000_000, 1_000_000])), (5, i32s(&[1_000_000, -1_000_000])), (6, cleared(3))];
+    call(ring_at_limit(), one(), 2, 3).leaves(desk, PART_TAKEN, &[0, 0, 2], left);
+    for (east, north, place) in beyond_limit() {
+        call((east.clone(), north.clone()), one(), 3, 3).refused(desk, PART_REFUSED, 3, place);
+        call(one(), (east, north), 3, 3).refused(desk, PART_REFUSED, 3, place);
+    }
+    call(many(MOST), one(), 3, 3).refused(desk, CORNERS_NOT_REFUSED, 9, 0);
+    call(many(MOST + 1), one(), 3, 3).refused(desk, SAMPLES_REFUSED, 2, 0);
+    call(one(), many(MOST + 1), 3, 3).refused(desk, SAMPLES_REFUSED, 2, 0);
+    // a ring joined with itself is itself
+    let of = |corners: usize| {
+        let Samples { east, north } = Samples::of(&large_ring(corners));
+        (Lent::I32(east), Lent::I32(north))
+    };
+    let (east, north) = of(32_768);
+    let left = vec![(4, east.clone()), (5, north.clone()), (6, cleared(MOST))];
+    let twice = call((east.clone(), north.clone()), (east, north), 32_768, MOST);
+    twice.leaves(desk, "65,536 joined corners taken", &[0, 0, 32_768], left);
+    call(of(32_768), of(32_769), 32_769, MOST + 1).refused(desk, "65,537 joined corners refused 2", 2, 0);
+}
+
+pub fn part(desk: &mut Desk) {
+    let mut of = |words, float: f64, number, value| {
+        let back = if number == 0 { 0 } else { float.to_bits() as i64 };
+        Call { entry: &PART, scalars: vec![float.to_bits() as i64], lent: Vec::new() }.leaves(desk, words, &[number, value, back], Vec::new());
+    };
+    of(PART_TAKEN, 1_000_000.0, 0, 1_000_000);
+    of(PART_TAKEN, -1_000_000.0, 0, -1_000_000);
+    of("float 1000000.5 refused 13", 1_000_000.5, 13, 0);
+    of("float 1000000.5 refused 13", -1_000_000.5, 13, 0);
+    of("0.5 refused 14", 0.5, 14, 0);
+    of("0.5 refused 14", -0.5, 14, 0);
+    of("minus zero taken as 0", -0.0, 0, 0);
+}
+
+pub fn readings(desk: &mut Desk) {
+    let floats = |list: &[f64]| Lent::F64(list.iter().map(|float| float.to_bits()).collect());
+    let call = |east: &[f64], north: &[f64]| Call {
+        entry: &READINGS,
+        scalars: Vec::new(),
+        lent: vec![floats(east), floats(north), Lent::I32(vec![8; east.len() + 1]), Lent::I32(vec![9; east.len() + 1])],
+    };
+    let taken = vec![(2, i32s(&[1_000_000, 0, 8])), (3, i32s(&[-1_000_000, 3, 9]))];
+    call(&[1_000_000.0, -0.0], &[-1_000_000.0, 3.0]).leaves(desk, PART_TAKEN, &[0, 0, 2, 0], taken);
+    for (words, float, number) in [("float 1000000.5 refused 13", 1_000_000.5f64, 13), ("0.5 refused 14", 0.5, 14)] {
+        let back = float.to_bits() as i64;
+        call(&[float, 1.0], &[f64::NAN, 1.0]).leaves(desk, words, &[number, 0, 0, back], Vec::new());
+        call(&[1.0, 1.0], &[1.0, float]).leaves(desk, words, &[number, 1, 0, back], Vec::new());
+    }
+    let (east, north) = (vec![-7.0; MOST], vec![1_000_000.0; MOST]);
+    let whole = |part: i32, behind: i32| Lent::I32([vec![part; MOST], vec![behind]].concat());
+    call(&east, &north).leaves(desk, "65,536 readings taken", &[0, 0, 65_536, 0], vec![(2, whole(-7, 8)), (3, whole(1_000_000, 9))]);
+    let longer = vec![0.0; MOST + 1];
+    call(&longer, &longer).refused(desk, SAMPLES_REFUSED, 2, 0);
+}
+
+pub fn record(desk: &mut Desk) {
+    let call = |bytes: Vec<u8>| Call { entry: &RECORD, scalars: Vec::new(), lent: vec![Lent::Bytes(bytes), i32s(&[8, 8, 8]), i32s(&[9, 9, 9])] };
+    let bytes = vec![1, 0, 0, 0, 8, 0, 15, 66, 64, 255, 240, 189, 192];
+    call(bytes).leaves(desk, PART_TAKEN, &[0, 0, 1], vec![(1, i32s(&[1_000_000, 8, 8])), (2, i32s(&[-1_000_000, 9, 9]))]);
+    call(vec![1, 0, 0, 0, 8, 0, 15, 66, 65, 0, 0, 0, 0]).refused(desk, PART_REFUSED, 3, 0);
+    call(vec![1, 0, 0, 0, 16, 0, 0, 0, 0, 0, 0, 0, 0, 0, 0, 0, 0, 255, 240, 189, 191]).refused(desk, PART_REFUSED, 3, 1);
+    call(record_of(&vec![at(4, 4); MOST])).refused(desk, CORNERS_NOT_REFUSED, 9, 0);
+    call(record_of(&vec![at(4, 4); MOST + 1])).refused(desk, SAMPLES_REFUSED, 2, 0);
+}
