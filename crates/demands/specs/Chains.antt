@@ -21,10 +21,9 @@ use Rattle.rules.specs.Streams.{Stream, stream, streams, sample, side, same, mi
 use Rattle.rules.specs.Chain.{Samples, Of, LeftEnd, RightEnd, Edge, Turn, Goes, stop, on, UpperChain, empty, starts, upper, lower, lowest, upper-numbers, lower-numbers}
 use Rattle.rules.specs.Refusals.{Answer, refused, done, output-short, output-after}
 use Rattle.rules.specs.Entries.{Chains, sample-tests, chains-answer}
-use Rattle.outline.specs.Lists.{member-counts, is-some-of, first-place-in, first-place-passes, first-place-first, is-first-place, not-both, same-equal, equal-same, no-same}
+use Rattle.outline.specs.Lists.{at-place-in, member-counts, is-some-of, first-place-in, first-place-passes, first-place-first, is-first-place, not-both, same-equal, equal-same, no-same}
 use Rattle.outline.specs.Chains.{upper-is, upper-only, upper-corners, upper-edge, upper-turn}
 use Rattle.samples.specs.Samples.{streams-length}
-use Rattle.samples.specs.Scans.{at-place-in}
 use Rattle.chains.specs.Mirrored.{lower-mirrored}
 use Rattle.chains.specs.Promise.{Counts, answer-as, counted}
 use Rattle.chains.specs.declared.ChainsAnswer.{ChainsAnswer}
@@ -159,7 +158,7 @@ module _ (xs : List Stream) where
   chain = upper xs
 
   corner-given : (k : ℕ) → k < length chain → List·Memᴰ (sample chain k) xs
-  corner-given k l = upper-corners (upper-is xs) (sample chain k) (at-place-in chain k _ l)
+  corner-given k l = upper-corners (upper-is xs) (sample chain k) (at-place-in chain k (stream (pos 0) (pos 0)) l)
 
   number-at : (k : ℕ) → k < length chain → getD (upper-numbers xs) k 0 ≡ lowest xs (sample chain k)
   unfolding upper-numbers
@@ -180,7 +179,7 @@ module _ (xs : List Stream) where
   none-then (starts h g) e = absurd (omega (arith, member-counts (h .given)))
 
   some-then : {C : List Stream} → UpperChain (Of xs) C → 0 < length xs → 0 < length C
-  some-then (empty f) l = absurd (f (sample xs 0) (at-place-in xs 0 _ l))
+  some-then (empty f) l = absurd (f (sample xs 0) (at-place-in xs 0 (stream (pos 0) (pos 0)) l))
   some-then (starts h g) l = omega arith
 
   pub upper-demanded : IsChain xs (upper-numbers xs)

@@ -18,7 +18,7 @@ use Rattle.rules.specs.Bridge.{Bridge}
 use Rattle.rules.specs.Round.{Said, round}
 use Rattle.rules.specs.Use.{envelope, join, turn-about}
 use Rattle.rules.specs.Refusals.{Answer, done, Test, too-many, scratch-short, output-short, ring-tests, not-envelope, output-after, scratch-after}
-use Rattle.rules.specs.Entries.{Chains, kept-list, easts, norths, ring-short, sample-tests, chains-answer, bridge-answer, round-answer, ring-answer, join-answer, turn-answer, strongest-answer, cover-answer, counted}
+use Rattle.rules.specs.Entries.{Chains, kept-list, easts, norths, counted, ring-short, sample-tests, chains-answer, bridge-answer, round-answer, ring-answer, join-answer, turn-answer, strongest-answer, cover-answer}
 use Rattle.rules.specs.Soundings.{A-easts, A-norths, A-scratch, A-ring-easts, A-ring-norths, A, A-ring, A-round, tall, flat, three, soundings, slips}
 use Rattle.rings.specs.Rings.{envelope-ring}
 use Rattle.rounds.specs.Steps.{no-step-without-bridge}

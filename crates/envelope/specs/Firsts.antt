@@ -2,19 +2,19 @@
 use mathlib.Core.Path.{_≡_, sym, _∙_, subst}
 use mathlib.Core.Logic.{_⊎_, inl, inr, ⊎-elim}
 use mathlib.Core.Bool.{Bool, true, false}
-use mathlib.Core.List.{List, List·Memᴰ, List·Memᴰ·head, List·Memᴰ·tail}
-use Prim.Native.Nat.{ℕ, suc, _+_, _<_}
+use mathlib.Core.List.{List, List·Memᴰ}
+use Prim.Native.Nat.{ℕ, _+_, _<_}
 use native.Mathlib.Omega.{arith}
-use lib.IntN.{ℤ}
+use lib.IntN.{ℤ, pos}
 use lib.Signed.{_≤ℤ_, _<ℤ_, ltZ, <ℤ-≤ℤ-trans}
 use lib.ListN.{length}
 use borrow.Author.Count.{below-more}
 use Rattle.whole.specs.Linear.{order}
 use Rattle.whole.specs.Laws.{≤ℤ-of-≡, ≤ℤ-split, <ℤ→≤ℤ, ≤ℤ-<ℤ-trans, test-lt, test-nlt, lt-test, nlt-test}
-use Rattle.rules.specs.Streams.{Stream, sample}
+use Rattle.rules.specs.Streams.{Stream, stream, sample}
 use Rattle.rules.specs.Chain.{leftmost}
 use Rattle.rules.specs.Use.{set-on}
-use Rattle.outline.specs.Lists.{two-keys-yes, two-keys-no, yes-first-key, yes-second-key, not-both, is-no}
+use Rattle.outline.specs.Lists.{in-place, two-keys-yes, two-keys-no, yes-first-key, yes-second-key, not-both, is-no}
 
 -- a test of what beats what: no two beat each other, and what beats one of two beats the other, or that one beats it
 pub record Orders (beats : Stream → Stream → Bool) : Type 0 where
@@ -64,16 +64,11 @@ module _ {beats : Stream → Stream → Bool} (orders : Orders beats) where
       first-apart k h e =
           not-both (subst (λ (t : Stream). beats (sample xs r) t ≡ true) (sym e) (f .before k h)) (not-itself (sample xs r))
 
--- what stands in the list is a sample
-in-sample : (xs : List Stream) {s : Stream} → List·Memᴰ s xs → (i : ℕ) × (i < length xs) × (s ≡ sample xs i)
-in-sample xs (List·Memᴰ·head e) = (0, omega arith, e)
-in-sample xs (List·Memᴰ·tail {xs = ys} m) = let h = in-sample ys m in (suc (h .0), (let l = h .1 in omega arith), h .2)
-
 -- at the end no stream of the list beats it
 pub first-unbeaten : {beats : Stream → Stream → Bool} {xs : List Stream} {r : ℕ} → First beats xs (length xs) r → {s : Stream} →
     List·Memᴰ s xs → beats s (sample xs r) ≡ false
 first-unbeaten {beats} {xs} {r} f m =
-    let (i, h, e) = in-sample xs m in
+    let (i, h, e) = in-place xs (stream (pos 0) (pos 0)) m in
     subst (λ (t : Stream). beats t (sample xs r) ≡ false) (sym e) (f .unbeaten i h)
 
 -- ---- the two tests

@@ -11,7 +11,7 @@ use Rattle.rules.specs.Streams.{Stream, stream, sample}
 use Rattle.rules.specs.Use.{set-on, strongest, strongest-place}
 use Rattle.rules.specs.Entries.{Strongest, strongest-of}
 use Rattle.rings.specs.Strongest.{strongest-only, strongest-place-only}
-use Rattle.samples.specs.Scans.{at-place-in}
+use Rattle.outline.specs.Lists.{at-place-in}
 use Rattle.envelope.specs.Firsts.{First, first-unbeaten, stronger}
 
 abbrev pub greatest : ℤ → ℕ → Strongest

@@ -17,13 +17,12 @@ use Rattle.rules.specs.Ring.{ring}
 use Rattle.rules.specs.Use.{envelope, turn-about}
 use Rattle.rules.specs.Refusals.{Answer, refused, done, output-after}
 use Rattle.rules.specs.Entries.{easts, norths, counted, turn-answer}
-use Rattle.outline.specs.Lists.{two-keys-no, is-first-place, equal-same, no-same}
+use Rattle.outline.specs.Lists.{at-place-in, two-keys-no, is-first-place, equal-same, no-same}
 use Rattle.rings.specs.Rings.{envelope-ring}
 use Rattle.rings.specs.Cycle.{Entered, enter, from-place, turn-from}
 use Rattle.rings.specs.Lines.{no-samples}
 use Rattle.samples.specs.Positions.{Sampled}
 use Rattle.samples.specs.Samples.{streams-length, streams-easts, streams-norths}
-use Rattle.samples.specs.Scans.{at-place-in}
 use Rattle.envelope.specs.declared.turn.Turned.{Turned}
 use Rattle.envelope.specs.Meaning.{turned-as, TurnPromise}
 use Rattle.envelope.specs.Firsts.{First, first-apart, first-unbeaten, nearer-entry, entry-orders}

@@ -164,6 +164,18 @@ module _ {A : Type 0} where
   member-counts (List·Memᴰ·head e) = omega arith
   member-counts (List·Memᴰ·tail m) = omega arith
 
+  -- ---- items by their places
+
+  -- what stands at a place stands in the list, and the other way round
+  pub at-place-in : (xs : List A) (i : ℕ) (d : A) → i < length xs → List·Memᴰ (getD xs i d) xs
+  at-place-in [] i d h = absurd (omega arith)
+  at-place-in (x ∷ xs) zero d h = List·Memᴰ·head refl
+  at-place-in (x ∷ xs) (suc i) d h = List·Memᴰ·tail (at-place-in xs i d (omega arith))
+
+  pub in-place : (xs : List A) (d : A) {p : A} → List·Memᴰ p xs → (i : ℕ) × (i < length xs) × (p ≡ getD xs i d)
+  in-place xs d (List·Memᴰ·head e) = (0, omega arith, e)
+  in-place xs d (List·Memᴰ·tail {xs = ys} m) = let h = in-place ys d m in (suc (h .0), (let l = h .1 in omega arith), h .2)
+
   -- ---- some item passes, every item passes
 
   pub some-of-is : (f : A → Bool) (xs : List A) → some-of f xs ≡ true → (p : A) × List·Memᴰ p xs × (f p ≡ true)

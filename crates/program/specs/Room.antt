@@ -13,8 +13,8 @@ use Rattle.rules.specs.Chain.{corners, left-end, next-corner, upper, lower}
 use Rattle.rules.specs.Ring.{first-of, last-of, equals, leave-first, leave-last, closed, ring}
 use Rattle.rules.specs.Refusals.{refused, done}
 use Rattle.rules.specs.Program.{ring-of-text, printed}
-use Rattle.samples.specs.Scans.{none-passes}
 use Rattle.rings.specs.Rings.{ring-sample}
+use Rattle.outline.specs.Lists.{none-of-is, is-none-of}
 use Rattle.text.specs.Room.{ring-room, refusal-room}
 
 -- ---- no more corners than two chains have
@@ -67,13 +67,8 @@ ring-few xs =
 
 -- ---- corners are samples, so within the limit where all samples are
 
-none-of : {A : Type 0} (test : A → Bool) (xs : List A) → ((x : A) → List·Memᴰ x xs → test x ≡ false) → some-of test xs ≡ false
-unfolding some-of
-none-of test [] h = refl
-none-of test (x ∷ xs) h = rw (h x (List·Memᴰ·head refl)) (none-of test xs (λ y m. h y (List·Memᴰ·tail m)))
-
 ring-within : (xs : List Stream) → some-of beyond xs ≡ false → some-of beyond (ring xs) ≡ false
-ring-within xs h = none-of beyond (ring xs) (λ p m. none-passes beyond xs h p (ring-sample xs m))
+ring-within xs h = is-none-of beyond (ring xs) (λ p m. none-of-is beyond xs h (ring-sample xs m))
 
 -- ---- what is printed
 

@@ -14,11 +14,10 @@ use Rattle.rules.specs.Lists.{some-of}
 use Rattle.rules.specs.Streams.{Stream, streams, sample, same}
 use Rattle.rules.specs.Chain.{Of, UpperChain, empty, starts, upper, lower, lowest, upper-numbers, lower-numbers}
 use Rattle.rules.specs.Ring.{closed, ring}
-use Rattle.outline.specs.Lists.{is-some-of, first-place-in, first-place-passes, same-equal, equal-same}
+use Rattle.outline.specs.Lists.{at-place-in, is-some-of, first-place-in, first-place-passes, same-equal, equal-same}
 use Rattle.outline.specs.Chains.{upper-is, upper-corners, lower-corners}
 use Rattle.samples.specs.Positions.{Near}
 use Rattle.samples.specs.Samples.{sample-near, streams-length}
-use Rattle.samples.specs.Scans.{at-place-in}
 use Rattle.stack.specs.Places.{listed, length-listed, listed-alike}
 use Rattle.walk.specs.Both.{Corners, both, count, Stand}
 use Rattle.closing.specs.Both.{Both, upper-at, lower-at}

@@ -3,8 +3,8 @@
 use mathlib.Core.Path.{_≡_, refl, sym, _∙_, subst}
 use mathlib.Core.Logic.{_≢_}
 use mathlib.Core.Bool.{Bool, true}
-use mathlib.Core.List.{List, [], _∷_, List·Memᴰ, List·Memᴰ·head, List·Memᴰ·tail}
-use Prim.Native.Nat.{ℕ, zero, suc, _<_}
+use mathlib.Core.List.{List, _∷_, List·Memᴰ}
+use Prim.Native.Nat.{ℕ, _<_}
 use native.Mathlib.Omega.{arith}
 use lib.IntN.{ℤ, pos}
 use lib.Signed.{_≤ℤ_, _<ℤ_, ltZ, ≤ℤ-refl}
@@ -16,13 +16,8 @@ use Rattle.rules.specs.Lists.{best-from, first-place, some-of}
 use Rattle.rules.specs.Streams.{Stream, stream, sample}
 use Rattle.rules.specs.Ring.{ring}
 use Rattle.rules.specs.Use.{set-on, strongest, strongest-place}
-use Rattle.outline.specs.Lists.{Ranks, Best, best-from-best, is-some-of, first-place-in, first-place-passes, first-place-first, is-first-place}
+use Rattle.outline.specs.Lists.{at-place-in, Ranks, Best, best-from-best, is-some-of, first-place-in, first-place-passes, first-place-first, is-first-place}
 use Rattle.rings.specs.Rings.{AllBehind, ring-behind, behind-ring}
-
-sample-in : (xs : List Stream) (i : ℕ) → i < length xs → List·Memᴰ (sample xs i) xs
-sample-in [] i h = absurd (omega arith)
-sample-in (x ∷ xs) zero h = List·Memᴰ·head refl
-sample-in (x ∷ xs) (suc i) h = List·Memᴰ·tail (sample-in xs i (omega arith))
 
 module _ (x y : ℤ) where
   abbrev stronger : Stream → Stream → Bool
@@ -106,7 +101,7 @@ module _ (x y : ℤ) where
     unfolding strongest-place
     strongest-place-first i h =
         weaker
-        (strongest-most p ps (sample-in (p ∷ ps) i (within i h)))
+        (strongest-most p ps (at-place-in (p ∷ ps) i (stream (pos 0) (pos 0)) (within i h)))
         (test-ne (set-on x y (sample (p ∷ ps) i)) (strongest x y p ps) (first-place-first has (p ∷ ps) (stream (pos 0) (pos 0)) i h))
       where
         within : (i : ℕ) → i < first-place has (p ∷ ps) → i < length (p ∷ ps)

@@ -9,7 +9,7 @@ use lib.IntN.{ℤ, pos, negsuc, natAbs, negℤ}
 use lib.Signed.{leZ, ltZ}
 use lib.Dec.{leb, ltb}
 use lib.ListN.{length, getD}
-use borrow.Author.Tests.{leb-true, le-leb, lt-leb, leb-false, ltb-true, ltb-false, lt-ltb, le-ltb}
+use borrow.Author.Tests.{leb-true, le-leb, lt-leb, leb-false, ltb-true, ltb-false, lt-ltb, le-ltb, not-false}
 use Rattle.whole.specs.Laws.{leZ-not-ltZ}
 use Rattle.whole.specs.Solver.{var, ⊝_}
 use Rattle.whole.specs.Fits.{Within, []ʷ, _∷ʷ_, value-within}
@@ -17,8 +17,9 @@ use Rattle.rules.specs.Lists.{some-of, first-place}
 use Rattle.rules.specs.Streams.{Stream, stream, streams, sample, limit, within, beyond, mirrored}
 use Rattle.rules.specs.Bridge.{spans}
 use Rattle.rules.specs.Entries.{easts, norths}
+use Rattle.outline.specs.Lists.{both-no, both-yes, at-place-in, none-of-is}
 use Rattle.samples.specs.Positions.{faced, at, east-of, easts-span, Near, Sampled, Listed}
-use Rattle.samples.specs.Scans.{at-place-in, some-by-place, none-passes}
+use Rattle.samples.specs.Scans.{some-by-place}
 
 -- ---- the streams of two lists of equal length
 
@@ -93,13 +94,9 @@ within-limit z e = record { within = leb-true (natAbs z) limit e }
 
 pub both-within : (s : Stream) → beyond s ≡ false → Near s
 unfolding beyond
-both-within s = go (within (s .east)) (within (s .north)) refl refl
-  where
-    go : (b c : Bool) → within (s .east) ≡ b → within (s .north) ≡ c → not (b && c) ≡ false → Near s
-    go true true p q e = record { east-near = within-limit (s .east) p; north-near = within-limit (s .north) q }
-    go true false p q e = absurd (false≢true (sym e))
-    go false true p q e = absurd (false≢true (sym e))
-    go false false p q e = absurd (false≢true (sym e))
+both-within s e =
+    let b = both-yes (within (s .east)) (within (s .north)) (not-false (within (s .east) && within (s .north)) e) in
+    record { east-near = within-limit (s .east) (b .0); north-near = within-limit (s .north) (b .1) }
 
 zero-near : Near (stream (pos 0) (pos 0))
 zero-near = record { east-near = record { within = omega arith }; north-near = record { within = omega arith } }
@@ -108,13 +105,8 @@ zero-near = record { east-near = record { within = omega arith }; north-near = r
 pub sample-near : (xs : List Stream) → some-of beyond xs ≡ false → (i : ℕ) → Near (sample xs i)
 unfolding some-of
 sample-near [] e i = zero-near
-sample-near (x ∷ xs) e i = go (beyond x) refl e i (λ f j. sample-near xs f j)
-  where
-    go : (b : Bool) → beyond x ≡ b → (b || some-of beyond xs) ≡ false → (i : ℕ) → (some-of beyond xs ≡ false → (j : ℕ) → Near (sample xs j))
-        → Near (sample (x ∷ xs) i)
-    go true p f i r = absurd (false≢true (sym f))
-    go false p f zero r = both-within x p
-    go false p f (suc i) r = r f i
+sample-near (x ∷ xs) e zero = both-within x (both-no (beyond x) (some-of beyond xs) e .0)
+sample-near (x ∷ xs) e (suc i) = sample-near xs (both-no (beyond x) (some-of beyond xs) e .1) i
 
 -- where no part is beyond the limit
 pub sampled : (es ns : List ℤ) → length es ≡ length ns → some-of beyond (streams es ns) ≡ false → Sampled es ns
@@ -149,7 +141,7 @@ module _ (es ns : List ℤ) (h : length es ≡ length ns) {p : ℕ} (e : p ≡ f
 -- ---- listed numbers
 
 pub listed : (count : ℕ) (l : List ℕ) → some-of (λ x. leb count x) l ≡ false → Listed count l
-listed count l e = record { below = λ x m. leb-false count x (none-passes (λ x. leb count x) l e x m) }
+listed count l e = record { below = λ x m. leb-false count x (none-of-is (λ x. leb count x) l e m) }
 
 pub listed-at : {count : ℕ} {l : List ℕ} → Listed count l → (i : ℕ) → i < length l → getD l i 0 < count
 listed-at {l} h i g = h .below (getD l i 0) (at-place-in l i 0 g)

@@ -1,9 +1,8 @@
 -- A scan of a list for the first item that passes a test, and whether some item passes it.
 -- Assumes nothing.
 use mathlib.Core.Path.{_≡_, refl, sym, ap, ap₂, _∙_}
-use mathlib.Core.Logic.{_⊎_, inl, inr}
-use mathlib.Core.Bool.{Bool, true, false, cond, _||_, false≢true}
-use mathlib.Core.List.{List, [], _∷_, List·Memᴰ, List·Memᴰ·not-nil, List·Memᴰ·cases-cons, List·Memᴰ·head, List·Memᴰ·tail}
+use mathlib.Core.Bool.{Bool, true, false, cond, _||_}
+use mathlib.Core.List.{List, [], _∷_}
 use Prim.Native.Nat.{ℕ, zero, suc, _+_, _≤_, _<_}
 use native.Mathlib.Nat.{not-suc-le-zero, le-of-suc-le-suc, add-zero}
 use native.Mathlib.Numerals.{add-one}
@@ -12,14 +11,9 @@ use lib.Dec.{ltb}
 use lib.ListN.{length, getD, drop, drop-of-length-le}
 use mir.Val.{boolByte}
 use lib.Seq.{drop-cons}
-use borrow.Author.Tests.{lt-ltb, le-ltb, ltb-true, ltb-false}
+use borrow.Author.Tests.{lt-ltb, le-ltb}
 use Rattle.rules.specs.Lists.{first-place, some-of}
-
--- an item stands in its list
-pub at-place-in : {A : Type 0} (l : List A) (i : ℕ) (d : A) → i < length l → List·Memᴰ (getD l i d) l
-at-place-in [] i d h = absurd (not-suc-le-zero h)
-at-place-in (x ∷ l) zero d h = List·Memᴰ·head refl
-at-place-in (x ∷ l) (suc i) d h = List·Memᴰ·tail (at-place-in l i d (le-of-suc-le-suc h))
+use Rattle.outline.specs.Lists.{first-place-in, no-first-place}
 
 or-true : (b : Bool) → (b || true) ≡ true
 or-true true = refl
@@ -73,33 +67,11 @@ module _ {A : Type 0} (test : A → Bool) where
 
   -- some item passes where the first place is inside
   pub some-by-place : (xs : List A) → some-of test xs ≡ ltb (first-place test xs) (length xs)
-  unfolding some-of first-place
-  some-by-place [] = refl
-  some-by-place (x ∷ xs) = go (test x) (some-by-place xs)
+  some-by-place xs = go (some-of test xs) refl
     where
-      go : (b : Bool) → some-of test xs ≡ ltb (first-place test xs) (length xs)
-          → (b || some-of test xs) ≡ ltb (cond b zero (suc (first-place test xs))) (suc (length xs))
-      go true e = sym (lt-ltb zero (suc (length xs)) (omega arith))
-      go false e = e ∙ shift (first-place test xs) (length xs)
-        where
-          shift : (m n : ℕ) → ltb m n ≡ ltb (suc m) (suc n)
-          shift m n = same (ltb m n) refl
-            where
-              same : (b : Bool) → ltb m n ≡ b → b ≡ ltb (suc m) (suc n)
-              same true e = sym (lt-ltb (suc m) (suc n) (omega (arith, ltb-true m n e)))
-              same false e = sym (le-ltb (suc m) (suc n) (omega (arith, ltb-false m n e)))
-
-  -- no item passes
-  pub none-passes : (xs : List A) → some-of test xs ≡ false → (x : A) → List·Memᴰ x xs → test x ≡ false
-  unfolding some-of
-  none-passes [] e x m = absurd (List·Memᴰ·not-nil m)
-  none-passes (y ∷ xs) e x m = go (test y) refl e (List·Memᴰ·cases-cons m) (λ f n. none-passes xs f x n)
-    where
-      go : (b : Bool) → test y ≡ b → (b || some-of test xs) ≡ false → (x ≡ y) ⊎ List·Memᴰ x xs
-          → (some-of test xs ≡ false → List·Memᴰ x xs → test x ≡ false) → test x ≡ false
-      go true g f c r = absurd (false≢true (sym f))
-      go false g f (inl p) r = ap test p ∙ g
-      go false g f (inr n) r = r f n
+      go : (b : Bool) → some-of test xs ≡ b → b ≡ ltb (first-place test xs) (length xs)
+      go true e = sym (lt-ltb (first-place test xs) (length xs) (first-place-in test xs e))
+      go false e = sym (le-ltb (first-place test xs) (length xs) (omega (arith, no-first-place test xs e)))
 
   -- ---- whether some item passes, by a count: k of the first i items do
   pub record Seen (xs : List A) (i k : ℕ) : Type 0 where

@@ -1,18 +1,20 @@
 -- Two chains by their places close to a ring: the upper one, and the lower one back, from its right end or before it to its left end or after it.
 -- Assumes nothing.
-use mathlib.Core.Path.{_≡_, refl, sym, ap, ap₂, _∙_}
+use mathlib.Core.Path.{_≡_, refl, sym, ap, ap₂, _∙_, subst}
 use mathlib.Core.Bool.{Bool, true, false, cond}
 use mathlib.Core.Option.{Option, none, some}
-use mathlib.Core.List.{List, [], _∷_, _++_, List·Memᴰ, List·Memᴰ·head, List·Memᴰ·tail}
+use mathlib.Core.List.{List, [], _∷_, _++_, List·Memᴰ}
 use Prim.Native.Nat.{ℕ, zero, suc, _+_, _-_, _≤_, _<_}
 use native.Mathlib.Nat.{sub-zero}
 use native.Mathlib.Omega.{arith}
 use borrow.Author.Tests.{lt-ltb, le-ltb}
 use lib.Dec.{ltb}
+use lib.IntN.{pos}
 use lib.ListN.{length}
-use Rattle.rules.specs.Streams.{Stream, sample, same, mirrored}
+use Rattle.rules.specs.Streams.{Stream, stream, sample, same, mirrored}
 use Rattle.rules.specs.Chain.{Of, UpperChain, upper, lower}
 use Rattle.rules.specs.Ring.{first-of, last-of, equals, leave-first, leave-last, closed, ring}
+use Rattle.outline.specs.Lists.{at-place-in, in-place}
 use Rattle.outline.specs.Sides.{mirrored-twice}
 use Rattle.outline.specs.Under.{Through}
 use Rattle.outline.specs.Chains.{upper-only, lower-only, same-samples}
@@ -141,18 +143,15 @@ closes-ring {f} {u} {g} {lo} {hi} c =
 
 -- ---- the two chains of the samples xs, by their places, close to the ring of xs
 
-sample-in : (xs : List Stream) {s : Stream} → List·Memᴰ s xs → All (sample xs) (length xs) s
-sample-in xs (List·Memᴰ·head e) = (0, (omega arith), e)
-sample-in xs (List·Memᴰ·tail {xs = ys} m) = let h = sample-in ys m in (suc (h .0), (let l = h .1 in omega arith), h .2)
-
-in-sample : (xs : List Stream) {s : Stream} (j : ℕ) → j < length xs → s ≡ sample xs j → List·Memᴰ s xs
-in-sample [] j l e = absurd (omega arith)
-in-sample (x ∷ xs) zero l e = List·Memᴰ·head e
-in-sample (x ∷ xs) (suc j) l e = List·Memᴰ·tail (in-sample xs j (omega arith) e)
-
 module _ (xs : List Stream) where
+  sample-in : {s : Stream} → List·Memᴰ s xs → All (sample xs) (length xs) s
+  sample-in m = in-place xs (stream (pos 0) (pos 0)) m
+
+  in-sample : {s : Stream} → All (sample xs) (length xs) s → List·Memᴰ s xs
+  in-sample (j, l, e) = subst (λ (t : Stream). List·Memᴰ t xs) (sym e) (at-place-in xs j (stream (pos 0) (pos 0)) l)
+
   chain-above : {C : List Stream} → UpperChain (All (sample xs) (length xs)) C → upper xs ≡ C
-  chain-above h = upper-only (same-samples (λ s a. in-sample xs (a .0) (a .1) (a .2)) (λ s m. sample-in xs m) h)
+  chain-above h = upper-only (same-samples (λ s a. in-sample a) (λ s m. sample-in m) h)
 
   chain-below : (g : ℕ → Stream) (l : ℕ) → UpperChain (All (λ k. mirrored (sample xs k)) (length xs)) (listed (λ i. mirrored (g i)) l) → lower xs ≡ listed g l
   chain-below g l h =
@@ -160,10 +159,10 @@ module _ (xs : List Stream) where
       ∙ listed-alike (λ i. mirrored (mirrored (g i))) g l (λ i p. mirrored-twice (g i))
     where
       to : (s : Stream) → All (λ k. mirrored (sample xs k)) (length xs) s → Through mirrored (Of xs) s
-      to s a = in-sample xs (a .0) (a .1) (ap mirrored (a .2) ∙ mirrored-twice (sample xs (a .0)))
+      to s a = in-sample (a .0, a .1, ap mirrored (a .2) ∙ mirrored-twice (sample xs (a .0)))
 
       from : (s : Stream) → Through mirrored (Of xs) s → All (λ k. mirrored (sample xs k)) (length xs) s
-      from s m = let a = sample-in xs m in (a .0, a .1, sym (mirrored-twice s) ∙ ap mirrored (a .2))
+      from s m = let a = sample-in m in (a .0, a .1, sym (mirrored-twice s) ∙ ap mirrored (a .2))
 
   pub chains-ring : (f : ℕ → Stream) (u : ℕ) (g : ℕ → Stream) (l : ℕ) → UpperChain (All (sample xs) (length xs)) (listed f u)
       → UpperChain (All (λ k. mirrored (sample xs k)) (length xs)) (listed (λ i. mirrored (g i)) l) → ring xs ≡ closed (listed f u) (listed g l)

@@ -50,13 +50,6 @@ corner-here es ns i h g =
     rw (drop-cons es i (pos 0) h, drop-cons ns i (pos 0) g, add-one)
     (sym (append-snoc (printed-whole e ++ (space ∷ printed-whole n)) newline (printed-corners (streams (drop (suc i) es) (drop (suc i) ns)))))
 
--- as many corners as each list has parts
-pub streams-length : (es ns : List ℤ) → length es ≡ length ns → length (streams es ns) ≡ length es
-unfolding streams
-streams-length [] ns h = refl
-streams-length (e ∷ es) [] h = absurd (omega arith)
-streams-length (e ∷ es) (n ∷ ns) h = ap suc (streams-length es ns (omega arith))
-
 -- ---- the lines put so far
 
 pub record Lines (es ns : List ℤ) (from i at : ℕ) (old now : List ℕ) : Type 0 where
