@@ -51,12 +51,6 @@ fn nowhere(course: Stream) -> bool
     false
 }
 
-fn refused(number: u32, place: usize) -> StrongestSet
-    ensures { λ r. ⌜ r ≡ StrongestSet.Refused number place ⌝ }
-{
-    StrongestSet::Refused { number, place }
-}
-
 // The strongest set on the course (x, y), unless refused: 1, 2 and 3 for the ring, 3 for the course, 9, 10, 11.
 pub fn strongest(east: &[i32], north: &[i32], x: i32, y: i32) -> StrongestSet
     ensures { λ r. ⌜ strongest-as r ≡ strongest-answer (now (east .entry)) (now (north .entry)) x y ⌝ }
@@ -65,14 +59,20 @@ pub fn strongest(east: &[i32], north: &[i32], x: i32, y: i32) -> StrongestSet
     match of_ring_and_stream(east, north, course) {
         Tested::Passed => {}
         Tested::Refused { number, place } => {
-            return refused(number, place);
+            return StrongestSet::Refused { number, place };
         }
     }
     if east.len() == 0 {
-        return refused(10, 0);
+        return StrongestSet::Refused {
+            number: 10,
+            place: 0,
+        };
     }
     if nowhere(course) {
-        return refused(11, 0);
+        return StrongestSet::Refused {
+            number: 11,
+            place: 0,
+        };
     }
     let best = strongest_place(east, north, course);
     StrongestSet::Greatest {

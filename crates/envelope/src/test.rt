@@ -88,24 +88,22 @@ fn is_envelope(east: &[i32], north: &[i32]) -> bool
     false
 }
 
-fn refused(number: u32, place: usize) -> Tested
-    ensures { λ r. ⌜ r ≡ Tested.Refused number place ⌝ }
-{
-    Tested::Refused { number, place }
-}
-
 // The tests of a ring and of a stream, which is tested for 3 after the ring's own 3: 1, 2, 3, 3, 9.
 pub fn of_ring_and_stream(east: &[i32], north: &[i32], s: Stream) -> Tested
     ensures { λ r. ⌜ r ≡ tested-of (stream-tests (now (east .entry)) (now (north .entry)) (stream-of s)) ⌝ }
 {
     match of_lists(east, north) {
-        Tested::Refused { number, place } => refused(number, place),
+        Tested::Refused { number, place } => Tested::Refused { number, place },
         Tested::Passed => {
             if beyond(s) {
-                return refused(3, 0);
+                let place = 0;
+                return Tested::Refused { number: 3, place };
             }
             if !is_envelope(east, north) {
-                return refused(9, 0);
+                return Tested::Refused {
+                    number: 9,
+                    place: 0,
+                };
             }
             Tested::Passed
         }

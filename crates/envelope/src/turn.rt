@@ -61,12 +61,6 @@ fn negate_from(parts: &[i32], start: usize, out: &mut [i32])
     negate(&parts[..start], &mut out[rest..]);
 }
 
-fn refused(number: u32, place: usize) -> Turned
-    ensures { λ r. ⌜ r ≡ Turned.Refused number place ⌝ }
-{
-    Turned::Refused { number, place }
-}
-
 // The ring turned about, written to the front of both outputs, unless refused: 1, 2, 3, 9, 5. A refusal alters nothing.
 pub fn turn_about(
     east: &[i32],
@@ -80,14 +74,20 @@ pub fn turn_about(
     match of_ring(east, north) {
         Tested::Passed => {}
         Tested::Refused { number, place } => {
-            return refused(number, place);
+            return Turned::Refused { number, place };
         }
     }
     if out_east.len() < east.len() {
-        return refused(5, 0);
+        return Turned::Refused {
+            number: 5,
+            place: 0,
+        };
     }
     if out_north.len() < east.len() {
-        return refused(5, 0);
+        return Turned::Refused {
+            number: 5,
+            place: 0,
+        };
     }
     let start = entry(east, north);
     negate_from(east, start, out_east);

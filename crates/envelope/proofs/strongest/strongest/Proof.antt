@@ -21,7 +21,6 @@ use Rattle.samples.specs.Samples.{streams-length, read-near}
 use Rattle.samples.specs.Tests.{tested-of, then-answer, answer-by, refuses, passes}
 use Rattle.samples.specs.declared.tests.Tested.{Tested}
 use Rattle.ringside.specs.Words.{read}
-use Rattle.envelope.specs.Meaning.{strongest-as}
 use Rattle.envelope.specs.Tests.{stream-tests, stream-passed}
 use Rattle.envelope.specs.Firsts.{First, stronger}
 use Rattle.envelope.specs.Strongest.{greatest, first-strongest}
@@ -72,9 +71,7 @@ after c e =
     (sym (c .of-ring-and-stream .ensures ∙ ap (λ (s : Stream). tested-of (stream-tests (es a) (ns a) s)) (ap₂ stream (read-x a) (read-y a))) ∙ e)
 
 returns : tie.Need-returns
-returns c =
-    let t = c .before .before in
-    ap strongest-as (c .refused .ensures) ∙ sym (after (t .before .before) (t .number .given .1))
+returns c = let t = c .before in sym (after (t .before .before) (t .number .given .1))
 
 -- where they are passed
 abbrev start : tie.After-enum-told → tie.Start
@@ -90,9 +87,8 @@ left c = after (c .before .before) (c .enum-told .given .1)
 
 returns-2 : tie.Need-returns-2
 returns-2 c =
-    let a = start (c .before .before) in
-    ap strongest-as (c .refused2 .ensures) ∙
-    sym (left (c .before .before) ∙ refuses (no-corner a) (no-course a ∷ []) (says a) (eq-eqb (length (es a)) 0 (c .before .if1 .taken)))
+    let a = start (c .before) in
+    sym (left (c .before) ∙ refuses (no-corner a) (no-course a ∷ []) (says a) (eq-eqb (length (es a)) 0 (c .if1 .taken)))
 
 -- where it has a corner
 left-1 : (c : tie.Else1) → Is (start (c .before)) (unless (no-course (start (c .before)) ∷ []) (says (start (c .before))))
@@ -107,10 +103,9 @@ tested c =
 
 returns-3 : tie.Need-returns-3
 returns-3 c =
-    let n = c .before .before in
+    let n = c .before in
     let a = start (n .before .before) in
-    ap strongest-as (c .refused3 .ensures) ∙
-    sym (left-1 (n .before) ∙ refuses (no-course a) [] (says a) (sym (tested n) ∙ c .before .if2 .taken))
+    sym (left-1 (n .before) ∙ refuses (no-course a) [] (says a) (sym (tested n) ∙ c .if2 .taken))
 
 -- where no test holds
 abbrev passed : tie.Else2 → tie.After-enum-told
@@ -153,12 +148,9 @@ strongest-spec =
     (λ c κs. search needs)
     (λ c. search needs)
     (λ c. search needs)
-    (λ c κs. search needs)
     returns
-    (λ c κs. search needs)
     returns-2
     (λ c κs. near (c .before) .1)
-    (λ c κs. search needs)
     returns-3
     (λ c κs. (near (passed c) .0, near (passed c) .1, omega (arith, c .before .before .if1 .left)))
     (λ c κs. (near (passed (c .before)) .0 .even, c .strongest-place .ensures .here))

@@ -44,9 +44,7 @@ is-envelope-requires c κs =
     (passed-tests (ring-tests (a .east .now) (a .north .now)) (sym (t .before .before .of-lists .ensures) ∙ t .enum-told .given .1)) .0
 
 returns : tie.Need-returns
-returns c =
-    let b = c .before .before in
-    c .refused2 .ensures ∙ sym (said (b .before) (sym (b .beyond .ensures) ∙ c .before .if1 .taken))
+returns c = let b = c .before in sym (said (b .before) (sym (b .beyond .ensures) ∙ c .if1 .taken))
 
 -- the stream is within the limit
 decided : (c : tie.After-is-envelope) {e : Bool} → c .is-envelope .result ≡ e → let a = c .before .before .before .before .before .before .args in
@@ -57,12 +55,10 @@ decided c e =
     ap (λ (e : Bool). cond (not e) (Refused 9 0) Passed) (sym (c .is-envelope .ensures) ∙ e)
 
 returns-2 : tie.Need-returns-2
-returns-2 c =
-    let n = c .before .before in
-    c .refused3 .ensures ∙ sym (decided n (not-true (n .is-envelope .result) (c .before .if2 .taken)))
+returns-2 c = sym (decided (c .before) (not-true (c .before .is-envelope .result) (c .if2 .taken)))
 
 returns-3 : tie.Need-returns-3
-returns-3 c = c .refused .ensures ∙ sym (after (c .before .before .before .before) (c .before .before .number .given .1))
+returns-3 c = sym (after (c .before .before .before) (c .before .number .given .1))
 
 returns-4 : tie.Need-returns-4
 returns-4 c = sym (decided (c .before) (not-false (c .before .is-envelope .result) (c .if2 .left)))
@@ -73,13 +69,10 @@ of-ring-and-stream-spec =
     (tie.spec
     (λ c κs. search needs)
     (λ c. search needs)
-    (λ c κs. search needs)
     (λ c. search needs)
-    (λ c κs. search needs)
     (λ c κs. search needs)
     returns
     is-envelope-requires
-    (λ c κs. search needs)
     returns-2
     returns-3
     returns-4)

@@ -16,7 +16,6 @@ use Rattle.rules.specs.Entries.{ring-short, turn-answer}
 use Rattle.samples.specs.Samples.{streams-length}
 use Rattle.samples.specs.Tests.{then-answer, answer-by, refuses, passes}
 use Rattle.samples.specs.declared.tests.Tested.{Tested}
-use Rattle.envelope.specs.Meaning.{turned-as}
 use Rattle.envelope.specs.Tests.{alone-tests, Sound, sound}
 use Rattle.envelope.specs.Turns.{parts-near, turned-length, turn-refused, turn-done}
 use Rattle.envelope.proofs.turn.turn_about.Statement.{statement}
@@ -54,9 +53,9 @@ after c e = let a = c .before in answer-by (alone-tests (es a) (ns a)) (short a 
 
 returns : tie.Need-returns
 returns c =
-    let t = c .before .before in
+    let t = c .before in
     let a = t .before .before .before in
-    turn-refused (es a) (ns a) (oe a) (on a) (ap turned-as (c .refused .ensures)) (after (t .before .before) (t .number .given .1))
+    turn-refused (es a) (ns a) (oe a) (on a) refl (after (t .before .before) (t .number .given .1))
 
 -- where they are passed
 abbrev start : tie.After-enum-told → tie.Start
@@ -76,20 +75,20 @@ count c =
 
 returns-2 : tie.Need-returns-2
 returns-2 c =
-    let t = c .before .before in
+    let t = c .before in
     let a = start t in
     let r = turned-ring a in
     let n : length r ≡ length (es a) = count t in
-    turn-refused (es a) (ns a) (oe a) (on a) (ap turned-as (c .refused2 .ensures))
+    turn-refused (es a) (ns a) (oe a) (on a) refl
     (left t ∙ refuses (short a) [] r (ap (λ (b : Bool). b || ltb (length (on a)) (length r)) (lt-ltb (length (oe a)) (length r) (omega arith))))
 
 returns-3 : tie.Need-returns-3
 returns-3 c =
-    let t = c .before .before .before in
+    let t = c .before .before in
     let a = start t in
     let r = turned-ring a in
     let n : length r ≡ length (es a) = count t in
-    turn-refused (es a) (ns a) (oe a) (on a) (ap turned-as (c .refused3 .ensures))
+    turn-refused (es a) (ns a) (oe a) (on a) refl
     (left t ∙ refuses (short a) [] r (ap₂ _||_ (le-ltb (length (oe a)) (length r) (omega arith)) (lt-ltb (length (on a)) (length r) (omega arith))))
 
 -- where both outputs have room
@@ -136,11 +135,8 @@ turn-about-spec =
     (λ c κs. search needs)
     (λ c. search needs)
     (λ c. search needs)
-    (λ c κs. search needs)
     returns
-    (λ c κs. search needs)
     returns-2
-    (λ c κs. search needs)
     returns-3
     (λ c κs. (good (passed c) .sampled .even, good (passed c) .is-envelope))
     negate-from-requires
