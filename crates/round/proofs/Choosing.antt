@@ -1,18 +1,19 @@
 -- What a pair keeps, by the order of its easts and the sign of its excess over K.
 -- Assumes nothing.
 use mathlib.Core.Path.{_≡_, refl, sym, ap, ap₂, _∙_}
-use mathlib.Core.Bool.{Bool, true, false, cond, not}
+use mathlib.Core.Bool.{Bool, true, false, cond, not, _||_}
+use mathlib.Core.Logic.{_≢_}
 use mathlib.Core.Option.{none, some}
 use mathlib.Core.List.{[], _∷_}
 use Prim.Native.Nat.{ℕ}
 use lib.IntN.{ℤ, pos, negℤ, _-ℤ_, _*ℤ_}
 use lib.Signed.{_≤ℤ_, _<ℤ_, leZ, ltZ}
 use Rattle.whole.specs.Linear.{order, difference, negation}
-use Rattle.whole.specs.Laws.{leZ-not-ltZ, lt-test, nlt-test, test-lt, test-nlt}
+use Rattle.whole.specs.Laws.{≤ℤ-antisym, leZ-not-ltZ, lt-test, nlt-test, test-lt, test-nlt}
 use Rattle.whole.specs.Solver.{var, _⊖_, _⊗_, ⊝_, ring}
 use Rattle.rules.specs.Streams.{Stream}
 use Rattle.rules.specs.Round.{Slope, slope, slope-le, pair, Tops, west, east, keeps-of, keeps}
-use Rattle.round.specs.Keeping.{excess, chosen}
+use Rattle.round.specs.Keeping.{excess, towards, chosen}
 
 -- ---- an order by the sign of the difference
 
@@ -31,6 +32,23 @@ above-zero a b = same-order a b (pos 0) (b -ℤ a) (λ h. omega (order, differen
 
 negated : (a b : ℤ) → ltZ (negℤ b) (negℤ a) ≡ ltZ a b
 negated a b = same-order (negℤ b) (negℤ a) a b (λ h. omega (order, negation a, negation b)) (λ h. omega (order, negation a, negation b))
+
+-- of two numbers that differ, one is below the other
+pub apart : (a b : ℤ) → a ≢ b → ltZ b a ≡ not (ltZ a b)
+apart a b f = go (ltZ a b) refl (ltZ b a) refl
+  where
+    go : (s : Bool) → ltZ a b ≡ s → (t : Bool) → ltZ b a ≡ t → t ≡ not s
+    go true e true g =
+        let h = test-lt a b e in
+        let k = test-lt b a g in
+        absurd (omega order)
+    go true e false g = refl
+    go false e true g = refl
+    go false e false g = absurd (f (≤ℤ-antisym (test-nlt b a g) (test-nlt a b e)))
+
+-- of two equal ones, neither is
+pub level : {a b : ℤ} → a ≡ b → ltZ a b ≡ false
+level {a} {b} h = nlt-test {a = a} {b = b} (omega order)
 
 -- ---- K against the slope of the way from p to q, and of the way back
 
@@ -88,13 +106,13 @@ module _ (at : ℕ → Stream) (K : Slope) (x y : ℕ) where
         h
 
     -- the first lies west
-    pub west-pair-west : keeps at (west K) (pair x y) ≡ chosen (ltZ over (pos 0)) true x y
+    west-pair-west : keeps at (west K) (pair x y) ≡ chosen (ltZ over (pos 0)) true x y
     west-pair-west =
         has-slope (west K)
         ∙ ap₂ (λ (b c : Bool). cond b (cond c y x ∷ []) (x ∷ y ∷ [])) (steeper K (at x) (at y)) h
         ∙ only-second x y (ltZ over (pos 0))
 
-    pub west-pair-east : keeps at (east K) (pair x y) ≡ chosen true (ltZ (pos 0) over) x y
+    west-pair-east : keeps at (east K) (pair x y) ≡ chosen true (ltZ (pos 0) over) x y
     west-pair-east =
         has-slope (east K)
         ∙ ap₂ (λ (b c : Bool). cond b (cond c x y ∷ []) (x ∷ y ∷ [])) (flatter K (at x) (at y)) h
@@ -107,13 +125,13 @@ module _ (at : ℕ → Stream) (K : Slope) (x y : ℕ) where
           ap₂ (λ (b c : Bool). keeps-of at t (cond b (some (slope (at x) (at y))) (cond c (some (slope (at y) (at x))) none)) x y) h g
 
       -- the second lies west
-      pub east-pair-west : keeps at (west K) (pair x y) ≡ chosen true (ltZ (pos 0) over) x y
+      east-pair-west : keeps at (west K) (pair x y) ≡ chosen true (ltZ (pos 0) over) x y
       east-pair-west =
           has-slope-back (west K)
           ∙ ap₂ (λ (b c : Bool). cond b (cond c y x ∷ []) (x ∷ y ∷ [])) (steeper-back K (at x) (at y)) h
           ∙ only-first x y (ltZ (pos 0) over)
 
-      pub east-pair-east : keeps at (east K) (pair x y) ≡ chosen (ltZ over (pos 0)) true x y
+      east-pair-east : keeps at (east K) (pair x y) ≡ chosen (ltZ over (pos 0)) true x y
       east-pair-east =
           has-slope-back (east K)
           ∙ ap₂ (λ (b c : Bool). cond b (cond c x y ∷ []) (x ∷ y ∷ [])) (flatter-back K (at x) (at y)) h
@@ -129,3 +147,11 @@ module _ (at : ℕ → Stream) (K : Slope) (x y : ℕ) where
         go : (b : Bool) → cond b y x ∷ [] ≡ chosen (not b) b x y
         go true = refl
         go false = refl
+
+  -- one lies west; the second is on the far side of the first, or not
+  pub slanted-pair : (r b : Bool) → ltZ (at x .east) (at y .east) ≡ r → ltZ (at y .east) (at x .east) ≡ not r
+      → keeps at (towards b K) (pair x y) ≡ chosen (not (cond r b (not b)) || ltZ over (pos 0)) (cond r b (not b) || ltZ (pos 0) over) x y
+  slanted-pair true true h g = west-pair-west h
+  slanted-pair true false h g = west-pair-east h
+  slanted-pair false true h g = east-pair-west h g
+  slanted-pair false false h g = east-pair-east h g

@@ -9,8 +9,8 @@ use native.Mathlib.Numerals.{add-one}
 use native.Mathlib.Omega.{arith}
 use lib.Dec.{lit≤}
 use lib.IntN.{pos}
-use lib.ListN.{length, getD, set, take, length-append, length-set}
-use lib.Seq.{getD-set-same, getD-set-other, getD-take}
+use lib.ListN.{length, getD, set, take, drop, length-append, length-set}
+use lib.Seq.{getD-set-same, getD-set-other, getD-take, drop-set-lt, drop-set-add}
 use Rattle.whole.specs.Linear.{order, difference, negation}
 use Rattle.whole.specs.Fits.{within-≤}
 use Rattle.rules.specs.Lists.{insert, sorted}
@@ -129,6 +129,18 @@ module _ (w : List ℕ) (k a b : ℕ) where
         go j (inl e) =
             subst (λ (m : ℕ). Part (getD (put w k a b) (2 * m) 0) (getD (put w k a b) (2 * m + 1) 0)) (sym e) (part-is put-rise put-run p)
         go j (inr i) = sound-alike put-alike h .part j i
+
+-- behind the first n, one slope written there and one written before
+pub drop-put : (n : ℕ) (w : List ℕ) (k a b : ℕ) → drop (2 * n) (put w (n + k) a b) ≡ put (drop (2 * n) w) k a b
+unfolding put
+drop-put n w k a b =
+    ap₂ (λ (i j : ℕ). drop (2 * n) (set (set w i a) j b)) (omega arith) (omega arith)
+    ∙ drop-set-add (2 * n) (set w (2 * n + 2 * k) a) (2 * k + 1) b
+    ∙ ap (λ (l : List ℕ). set l (2 * k + 1) b) (drop-set-add (2 * n) w (2 * k) a)
+
+pub drop-put-before : (n : ℕ) (w : List ℕ) (k a b : ℕ) → k < n → drop (2 * n) (put w k a b) ≡ drop (2 * n) w
+unfolding put
+drop-put-before n w k a b h = drop-set-lt (2 * n) (set w (2 * k) a) (2 * k + 1) b (omega arith) ∙ drop-set-lt (2 * n) w (2 * k) a (omega arith)
 
 pub sound-none : (w : List ℕ) → Sound 0 w
 sound-none w = record { part = λ k h. absurd (not-suc-le-zero h) }

@@ -1,13 +1,12 @@
 -- What the passes over slopes in scratch say, of which a pick is made. In each, w is the list as it came and v as it is left.
 -- Assumes nothing.
 use mathlib.Core.Path.{_≡_}
-use mathlib.Core.Bool.{Bool, true, false}
+use mathlib.Core.Bool.{Bool}
 use mathlib.Core.List.{List, List·Memᴰ}
 use Prim.Native.Nat.{ℕ, _+_, _*_, _≤_, _<_}
-use lib.ListN.{length, getD}
+use lib.ListN.{length, getD, drop}
 use Rattle.rules.specs.Lists.{those}
 use Rattle.rules.specs.Round.{Slope, slope-le}
-use Rattle.ranks.specs.Counts.{count}
 use Rattle.ranks.specs.Ranks.{HasRank, under, over}
 use Rattle.slopes.specs.Fractions.{fraction, fractions, put, Part, Sound, Pickable, Near}
 use Rattle.slopes.specs.declared.scan.Counts as code
@@ -27,20 +26,20 @@ pub record Listed (n : ℕ) (w : List ℕ) : Type 0 where
   pub inside : 2 * n ≤ length w
   pub sound : Sound n w
 
--- how many lie below p, and how many above
-pub record Counted (n : ℕ) (w : List ℕ) (p : Slope) (c : code.Counts) : Type 0 where
-  pub below-is : c .below ≡ count (under slope-le p) (fractions n w)
-  pub above-is : c .above ≡ count (over slope-le p) (fractions n w)
-
--- above p, or below it
-abbrev pub beyond : Bool → Slope → Slope → Bool
-beyond true p = over slope-le p
-beyond false p = under slope-le p
+-- and behind them there is room for as many
+pub record Roomy (n : ℕ) (w : List ℕ) : Type 0 where
+  pub sound : Sound n w
+  pub room : 4 * n ≤ length w
 
 -- of the first n those that pass the test, k of them, at the front
 pub record Kept (test : Slope → Bool) (n : ℕ) (w v : List ℕ) (k : ℕ) : Type 0 where
   pub front : fractions k v ≡ those test (fractions n w)
   pub sound : Sound k v
+
+-- those below p at the front, and those above it behind the first n
+pub record Parted (n : ℕ) (w v : List ℕ) (p : Slope) (c : code.Counts) : Type 0 where
+  pub below-kept : Kept (under slope-le p) n w v (c .below)
+  pub above-kept : Kept (over slope-le p) n w (drop (2 * n) v) (c .above)
 
 -- an answer is one of the slopes and has rank r among them
 pub record Answers (r : ℕ) (ks : List Slope) (k : Slope) : Type 0 where

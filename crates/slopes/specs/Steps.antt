@@ -1,4 +1,4 @@
--- The laws of the passes over slopes: keeping, counting, a step by a pivot, gathering. From them what a pick says follows.
+-- The laws of the passes over slopes: keeping, parting, a step by a pivot, gathering. From them what a pick says follows.
 -- Assumes nothing.
 use mathlib.Core.Path.{_≡_, refl, sym, ap, ap₂, _∙_, subst}
 use mathlib.Core.Logic.{_⊎_, inl, inr}
@@ -13,104 +13,205 @@ use lib.ListN.{length, getD, drop, take, length-drop}
 use lib.Seq.{getD-drop, take-all}
 use Rattle.rules.specs.Lists.{those, consIf}
 use Rattle.rules.specs.Round.{Slope, slope-le}
-use Rattle.ranks.specs.Counts.{bit, bit-le, count, count-none-of, count-cons, count-append, count-le-length, count-not, length-those, those-append, of-those}
+use Rattle.ranks.specs.Counts.{bit, bit-le, count, count-le-length, count-not, length-those, those-append, of-those}
 use Rattle.ranks.specs.Ranks.{HasRank, under, upto, over}
-use Rattle.slopes.specs.Fractions.{fraction, fraction-at, fractions, Part, Sound, Pickable, Near, Picked}
-use Rattle.slopes.specs.Passes.{Shows, Stands, Listed, Kept, Answers, Narrowed, Alike, copied, Copied, Gatherable, Gathered, Pivoted}
+use Rattle.slopes.specs.Fractions.{fraction, fraction-at, fractions, put, Part, Sound, Pickable, Near, Picked}
+use Rattle.slopes.specs.Passes.{Shows, Stands, Listed, Roomy, Kept, Parted, Answers, Narrowed, Alike, copied, Copied, Gatherable, Gathered, Pivoted}
 use Rattle.rounds.specs.Slopes.{slope-order}
 use Rattle.slopes.specs.Order.{rank-below-on, rank-above-on, fewer-below, fewer-above, level-ranked}
-use Rattle.slopes.specs.Laws.{near-part, one-more, length-fractions, place-of, near-of, fraction-in, fractions-alike, part-is, sound-alike, alike-trans, length-put, put-other, put-alike, put-rise, put-run, fractions-put, sound-put, sound-none}
+use Rattle.slopes.specs.Laws.{near-part, one-more, length-fractions, place-of, near-of, fraction-in, fractions-alike, part-is, sound-alike, alike-trans, length-put, put-other, put-alike, put-rise, put-run, fractions-put, sound-put, sound-none, drop-put, drop-put-before}
 
 -- ---- the words of one slope
 
 pub shows : {a b : ℕ} {k : Slope} → Part a b → k ≡ fraction a b → Shows a b k
 shows h e = record { is = e; near = subst Near (sym e) (near-part h) }
 
--- ---- keeping the slopes that pass a test: the first i passed, k of them kept
+-- ---- keeping the slopes that pass a test: of the first i those that pass, k of them
 
-pub record Keeping (test : Slope → Bool) (w v : List ℕ) (i k : ℕ) : Type 0 where
-  pub fewer : k ≤ i
-  pub long : length v ≡ length w
-  pub rest : (j : ℕ) → 2 * i ≤ j → getD v j 0 ≡ getD w j 0
-  pub kept : Kept test i w v k
+module _ {test : Slope → Bool} {w u : List ℕ} {i k : ℕ} (h : Kept test i w u k) where
+  pub kept-count : k ≡ count test (fractions i w)
+  kept-count = sym (length-fractions k u) ∙ ap length (h .front) ∙ length-those test (fractions i w)
 
-pub keeping-none : (test : Slope → Bool) (w : List ℕ) → Keeping test w w 0 0
+  pub kept-most : k ≤ i
+  kept-most = omega (arith, kept-count, count-le-length test (fractions i w), length-fractions i w)
+
+  pub kept-alike : {v : List ℕ} → Alike (2 * k) u v → Kept test i w v k
+  kept-alike a = record { front = fractions-alike k a ∙ h .front; sound = sound-alike a (h .sound) }
+
+  -- slope i is stored behind them, and is one of them if it passes
+  module _ {a b : ℕ} (inside : 2 * k + 1 < length u) (part : Part a b) (here : fraction a b ≡ fraction-at w i) where
+    front-more : (t : Bool) → fractions (k + bit t) (put u k a b) ≡ fractions k u ++ consIf t (fraction a b) []
+    front-more true = fractions-put u k a b inside
+    front-more false = ap (λ (m : ℕ). fractions m (put u k a b)) (add-zero k) ∙ fractions-alike k (put-alike u k a b) ∙ sym (append-nil (fractions k u))
+
+    sound-more : (t : Bool) → Sound (k + bit t) (put u k a b)
+    sound-more true = sound-put u k a b inside part (h .sound)
+    sound-more false = subst (λ (m : ℕ). Sound m (put u k a b)) (sym (add-zero k)) (sound-alike (put-alike u k a b) (h .sound))
+
+    those-more : those test (fractions (i + 1) w) ≡ those test (fractions i w) ++ consIf (test (fraction-at w i)) (fraction-at w i) []
+    unfolding those
+    those-more = ap (those test) (one-more i w) ∙ those-append test (fractions i w) (fraction-at w i ∷ [])
+
+    pub kept-more : (t : Bool) → t ≡ test (fraction a b) → Kept test (i + 1) w (put u k a b) (k + bit t)
+    kept-more t e =
+        record {
+          front =
+              front-more t
+              ∙ ap₂ (λ (l : List Slope) (s : List Slope). l ++ s) (h .front) (ap₂ (λ (c : Bool) (s : Slope). consIf c s []) (e ∙ ap test here) here)
+              ∙ sym those-more;
+          sound = sound-more t;
+        }
+
+pub kept-none : (test : Slope → Bool) (w u : List ℕ) → Kept test 0 w u 0
 unfolding fractions those
-keeping-none test w =
-    record { fewer = omega arith; long = refl; rest = λ j h. refl; kept = record { front = refl; sound = sound-none w } }
+kept-none test w u = record { front = refl; sound = sound-none u }
 
-module _ {n : ℕ} {test : Slope → Bool} {w v : List ℕ} {i k : ℕ} (all : Listed n w) (h : Keeping test w v i k) (below : i < n) where
+-- ---- parting: of the first i those below p at the front, b of them, and those above it behind the first n, a of them
+
+pub record Parting (n : ℕ) (w v : List ℕ) (p : Slope) (i b a : ℕ) : Type 0 where
+  pub below-fewer : b ≤ i
+  pub above-fewer : a ≤ i
+  pub long : length v ≡ length w
+  pub rest : (j : ℕ) → 2 * i ≤ j → j < 2 * n → getD v j 0 ≡ getD w j 0
+  pub below-kept : Kept (under slope-le p) i w v b
+  pub above-kept : Kept (over slope-le p) i w (drop (2 * n) v) a
+
+pub parting-none : (n : ℕ) (w : List ℕ) (p : Slope) → Parting n w w p 0 0 0
+parting-none n w p =
+    record {
+      below-fewer = omega arith;
+      above-fewer = omega arith;
+      long = refl;
+      rest = λ j h g. refl;
+      below-kept = kept-none (under slope-le p) w w;
+      above-kept = kept-none (over slope-le p) w (drop (2 * n) w);
+    }
+
+module _ {n : ℕ} {w v : List ℕ} {p : Slope} {i b a : ℕ} (all : Roomy n w) (h : Parting n w v p i b a) (below : i < n) where
+  abbrev rise-here : ℕ
+  rise-here = getD v (2 * i) 0
+
+  abbrev run-here : ℕ
+  run-here = getD v (2 * i + 1) 0
+
   -- slope i is as it came
   same-fraction : fraction-at v i ≡ fraction-at w i
-  same-fraction = ap₂ fraction (h .rest (2 * i) (omega arith)) (h .rest (2 * i + 1) (omega arith))
+  same-fraction = ap₂ fraction (h .rest (2 * i) (omega arith) (omega arith)) (h .rest (2 * i + 1) (omega arith) (omega arith))
+
+  part-here : Part rise-here run-here
+  part-here = part-is (h .rest (2 * i) (omega arith) (omega arith)) (h .rest (2 * i + 1) (omega arith) (omega arith)) (all .sound .part i below)
 
   pub stands-here : Stands v i
-  stands-here =
-      let a = all .inside in
-      let b = h .long in
+  stands-here = let r = all .room in let l = h .long in record { inside = omega arith; part = part-here }
+
+  pub inside-above : 2 * (n + a) + 1 < length v
+  inside-above = let r = all .room in let l = h .long in let f = h .above-fewer in omega arith
+
+  -- slope i is stored among those above, and then among those below
+  abbrev once : List ℕ
+  once = copied v i (n + a)
+
+  abbrev twice : List ℕ
+  twice = copied once i b
+
+  once-alike : Alike (2 * (n + a)) v once
+  once-alike = put-alike v (n + a) rise-here run-here
+
+  once-long : length once ≡ length v
+  once-long = length-put v (n + a) rise-here run-here
+
+  pub inside-once : 2 * i + 1 < length once
+  inside-once = let r = all .room in let l = h .long in omega (arith, once-long)
+
+  pub inside-below : 2 * b + 1 < length once
+  inside-below = let r = all .room in let l = h .long in let f = h .below-fewer in omega (arith, once-long)
+
+  rise-once : getD once (2 * i) 0 ≡ rise-here
+  rise-once = once-alike .same (2 * i) (omega arith)
+
+  run-once : getD once (2 * i + 1) 0 ≡ run-here
+  run-once = once-alike .same (2 * i + 1) (omega arith)
+
+  twice-long : length twice ≡ length w
+  twice-long = length-put once b (getD once (2 * i) 0) (getD once (2 * i + 1) 0) ∙ once-long ∙ h .long
+
+  twice-rest : (j : ℕ) → 2 * (i + 1) ≤ j → j < 2 * n → getD twice j 0 ≡ getD w j 0
+  twice-rest j g l =
+      let f = h .below-fewer in
+      put-other once b (getD once (2 * i) 0) (getD once (2 * i + 1) 0) j (omega arith) (omega arith)
+      ∙ once-alike .same j (omega arith)
+      ∙ h .rest j (omega arith) l
+
+  behind-is-put : drop (2 * n) twice ≡ put (drop (2 * n) v) a rise-here run-here
+  behind-is-put =
+      let f = h .below-fewer in
+      drop-put-before n once b (getD once (2 * i) 0) (getD once (2 * i + 1) 0) (omega arith) ∙ drop-put n v a rise-here run-here
+
+  pub parting-more : (s t : Bool) → s ≡ under slope-le p (fraction-at v i) → t ≡ over slope-le p (fraction-at v i)
+      → Parting n w twice p (i + 1) (b + bit s) (a + bit t)
+  parting-more s t e g =
+      let f = h .below-fewer in
+      let k = h .above-fewer in
       record {
-        inside = omega arith;
-        part = part-is (h .rest (2 * i) (omega arith)) (h .rest (2 * i + 1) (omega arith)) (all .sound .part i below);
+        below-fewer = omega (arith, bit-le s true (λ x. tt));
+        above-fewer = omega (arith, bit-le t true (λ x. tt));
+        long = twice-long;
+        rest = twice-rest;
+        below-kept =
+            kept-more (kept-alike (h .below-kept) (record { same = λ j l. once-alike .same j (omega arith) })) inside-below
+            (part-is rise-once run-once part-here)
+            (ap₂ fraction rise-once run-once ∙ same-fraction)
+            s
+            (e ∙ ap (under slope-le p) (sym (ap₂ fraction rise-once run-once)));
+        above-kept =
+            subst (λ (l : List ℕ). Kept (over slope-le p) (i + 1) w l (a + bit t)) (sym behind-is-put)
+            (kept-more (h .above-kept) (let r = all .room in let l = h .long in omega (arith, length-drop (2 * n) v)) part-here same-fraction t g);
       }
 
-  pub inside-kept : 2 * k + 1 < length v
-  inside-kept = let a = all .inside in let b = h .long in let d = h .fewer in omega arith
+pub parted : {n : ℕ} {w v : List ℕ} {p : Slope} {b a : ℕ} → Parting n w v p n b a → Parted n w v p (record { below = b; above = a })
+parted h = record { below-kept = h .below-kept; above-kept = h .above-kept }
 
-  abbrev next : List ℕ
-  next = copied v i k
+-- ---- what lies behind the first n moved to the front, i slopes of it
 
-  stays : Alike (2 * k) v next
-  stays = put-alike v k (getD v (2 * i) 0) (getD v (2 * i + 1) 0)
+pub record Fronting (n : ℕ) (w v : List ℕ) (i : ℕ) : Type 0 where
+  pub long : length v ≡ length w
+  pub moved : Alike (2 * i) (drop (2 * n) w) v
+  pub rest : (j : ℕ) → 2 * n ≤ j → getD v j 0 ≡ getD w j 0
 
-  more-rest : (j : ℕ) → 2 * (i + 1) ≤ j → getD next j 0 ≡ getD w j 0
-  more-rest j g = let a = h .fewer in put-other v k (getD v (2 * i) 0) (getD v (2 * i + 1) 0) j (omega arith) (omega arith) ∙ h .rest j (omega arith)
+pub fronting-none : (n : ℕ) (w : List ℕ) → Fronting n w w 0
+fronting-none n w = record { long = refl; moved = record { same = λ j h. absurd (omega arith) }; rest = λ j h. refl }
 
-  -- the slopes that pass, one slope further
-  those-more : those test (fractions (i + 1) w) ≡ those test (fractions i w) ++ consIf (test (fraction-at w i)) (fraction-at w i) []
-  unfolding those
-  those-more = ap (those test) (one-more i w) ∙ those-append test (fractions i w) (fraction-at w i ∷ [])
-
-  front-more : (t : Bool) → fractions (k + bit t) next ≡ fractions k v ++ consIf t (fraction-at v i) []
-  front-more true = fractions-put v k (getD v (2 * i) 0) (getD v (2 * i + 1) 0) inside-kept
-  front-more false = ap (λ (m : ℕ). fractions m next) (add-zero k) ∙ fractions-alike k stays ∙ sym (append-nil (fractions k v))
-
-  sound-more : (t : Bool) → Sound (k + bit t) next
-  sound-more true = sound-put v k (getD v (2 * i) 0) (getD v (2 * i + 1) 0) inside-kept (stands-here .part) (h .kept .sound)
-  sound-more false = subst (λ (m : ℕ). Sound m next) (sym (add-zero k)) (sound-alike stays (h .kept .sound))
-
-  pub keeping-more : (t : Bool) → t ≡ test (fraction-at v i) → Keeping test w next (i + 1) (k + bit t)
-  keeping-more t e =
-      record {
-        fewer = let a = h .fewer in omega (arith, bit-le t true (λ x. tt));
-        long = length-put v k (getD v (2 * i) 0) (getD v (2 * i + 1) 0) ∙ h .long;
-        rest = more-rest;
-        kept =
-            record {
-              front =
-                  front-more t
-                  ∙ ap₂ (λ (l : List Slope) (s : List Slope). l ++ s) (h .kept .front) (ap₂ (λ (b : Bool) (s : Slope). consIf b s []) (e ∙ ap test same-fraction) same-fraction)
-                  ∙ sym those-more;
-              sound = sound-more t;
-            };
-      }
-
--- ---- counting
-
-pub count-more : (test : Slope → Bool) (i : ℕ) (w : List ℕ) → count test (fractions (i + 1) w) ≡ count test (fractions i w) + bit (test (fraction-at w i))
-count-more test i w =
-    ap (count test) (one-more i w) ∙ count-append test (fractions i w) (fraction-at w i ∷ [])
-    ∙ ap (λ (m : ℕ). count test (fractions i w) + m) (count-one test (fraction-at w i))
+pub fronting-more : {n : ℕ} {w v : List ℕ} {i : ℕ} → Fronting n w v i → i < n → 2 * i + 1 < length v → Fronting n w (copied v (n + i) i) (i + 1)
+fronting-more {n} {w} {v} {i} h below inside =
+    record {
+      long = length-put v i a b ∙ h .long;
+      moved = record { same = λ j l. go j (eq-or-lt-of-le (omega arith)) };
+      rest = λ j l. put-other v i a b j (omega arith) (omega arith) ∙ h .rest j l;
+    }
   where
-    count-one : (test : Slope → Bool) (s : Slope) → count test (s ∷ []) ≡ bit (test s)
-    count-one test s = count-cons test s [] ∙ ap (λ (m : ℕ). bit (test s) + m) (count-none-of test) ∙ add-zero (bit (test s))
+    a : ℕ
+    a = getD v (2 * (n + i)) 0
 
-pub count-most : (test : Slope → Bool) (i : ℕ) (w : List ℕ) → count test (fractions i w) ≤ i
-count-most test i w = omega (arith, count-le-length test (fractions i w), length-fractions i w)
+    b : ℕ
+    b = getD v (2 * (n + i) + 1) 0
+
+    from : (j k : ℕ) → k ≡ 2 * n + j → getD v k 0 ≡ getD (drop (2 * n) w) j 0
+    from j k e = h .rest k (omega arith) ∙ ap (λ (m : ℕ). getD w m 0) e ∙ sym (getD-drop (2 * n) w j 0)
+
+    low : (j : ℕ) → (j ≡ 2 * i) ⊎ (j < 2 * i) → getD (put v i a b) j 0 ≡ getD (drop (2 * n) w) j 0
+    low j (inl e) = ap (λ (m : ℕ). getD (put v i a b) m 0) e ∙ put-rise v i a b inside ∙ from (2 * i) (2 * (n + i)) (omega arith) ∙ ap (λ (m : ℕ). getD (drop (2 * n) w) m 0) (sym e)
+    low j (inr l) = put-alike v i a b .same j l ∙ h .moved .same j l
+
+    go : (j : ℕ) → (j ≡ 2 * i + 1) ⊎ (j < 2 * i + 1) → getD (put v i a b) j 0 ≡ getD (drop (2 * n) w) j 0
+    go j (inl e) =
+        ap (λ (m : ℕ). getD (put v i a b) m 0) e ∙ put-run v i a b inside ∙ from (2 * i + 1) (2 * (n + i) + 1) (omega arith)
+        ∙ ap (λ (m : ℕ). getD (drop (2 * n) w) m 0) (sym e)
+    go j (inr l) = low j (eq-or-lt-of-le (omega arith))
 
 -- ---- a step by a pivot
 
-pub listed-of : {n r : ℕ} {w : List ℕ} → Pickable n r w → Listed n w
-listed-of h = let a = h .room in record { inside = omega arith; sound = h .sound }
+pub roomy : {n r : ℕ} {w : List ℕ} → Pickable n r w → Roomy n w
+roomy h = record { sound = h .sound; room = h .room }
 
 module _ {n r : ℕ} {w : List ℕ} {p : Slope} (ask : Pickable n r w) (m : List·Memᴰ p (fractions n w)) where
   abbrev slopes : List Slope
@@ -120,9 +221,6 @@ module _ {n r : ℕ} {w : List ℕ} {p : Slope} (ask : Pickable n r w) (m : List
   forward k h = near-of (ask .sound) h .forward
 
   module _ {test : Slope → Bool} {v : List ℕ} {k : ℕ} (long : length v ≡ length w) (h : Kept test n w v k) where
-    kept-count : k ≡ count test slopes
-    kept-count = sym (length-fractions k v) ∙ ap length (h .front) ∙ length-those test slopes
-
     kept-asks : (s : ℕ) → 1 ≤ s → s ≤ k → k ≤ n → Pickable k s v
     kept-asks s low high b = let a = ask .room in record { rank-low = low; rank-high = high; sound = h .sound; room = omega arith }
 
@@ -132,7 +230,7 @@ module _ {n r : ℕ} {w : List ℕ} {p : Slope} (ask : Pickable n r w) (m : List
 
   pub narrowed-below : {v : List ℕ} {k : ℕ} → length v ≡ length w → Kept (under slope-le p) n w v k → r ≤ count (under slope-le p) slopes → Narrowed n r w v p k r
   narrowed-below {v} {k} long h b =
-      let e = kept-count long h in
+      let e = kept-count h in
       let low = ask .rank-low in
       let less = fewer-below slopes m in
       let all = length-fractions n w in
@@ -155,7 +253,7 @@ module _ {n r : ℕ} {w : List ℕ} {p : Slope} (ask : Pickable n r w) (m : List
   pub narrowed-above : {v : List ℕ} {k above : ℕ} → length v ≡ length w → Kept (over slope-le p) n w v k → above ≡ count (over slope-le p) slopes → n - above < r
       → Narrowed n r w v p k (r - (n - above))
   narrowed-above {v} {k} {above} long h c b =
-      let e = kept-count long h in
+      let e = kept-count h in
       let high = ask .rank-high in
       let less = fewer-above slopes m in
       let all = length-fractions n w in

@@ -1,5 +1,5 @@
 // The pick of a slope: the slope of a given rank among those that lie at the front of scratch, two words each. Slopes are compared by cross products and
-// never divided. A step counts the slopes below and above a pivot and keeps the one side that has the rank; correctness needs only that the pivot is
+// never divided. A step parts the slopes below a pivot from those above it and goes on with the side that has the rank; correctness needs only that the pivot is
 // one of the slopes.
 mod fraction;
 mod gather;

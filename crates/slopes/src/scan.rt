@@ -3,10 +3,11 @@ use super::Slope;
 use super::fraction::copy;
 use super::fraction::less;
 use super::fraction::slope_at;
-ghost use mathlib.Core.Path.{_≡_};
 ghost use mathlib.Core.List.{List·Memᴰ};
+ghost use Prim.Native.Nat.{_*_, _≤_};
+ghost use lib.ListN.{length, drop};
 ghost use Rattle.slopes.specs.Fractions.{as-slope, fractions, Near, Pickable};
-ghost use Rattle.slopes.specs.Passes.{Listed, Counted, beyond, Kept, Narrowed};
+ghost use Rattle.slopes.specs.Passes.{Roomy, Parted, Alike, Narrowed};
 
 // How many slopes lie below another, and how many above.
 struct Counts {
@@ -14,15 +15,19 @@ struct Counts {
     above: usize,
 }
 
-fn count(w: &[u32], n: usize, p: Slope) -> Counts
-    requires { ⌜ Listed n (now w) × Near (as-slope p) ⌝ }
-    ensures { λ r. ⌜ Counted n (now (w .entry)) (as-slope p) r ⌝ }
+// Parts the n slopes at the front: those below p are left at the front, and those above it behind the n, in their order. Each is stored at both places, and the
+// places move on by the tests.
+fn part(w: &mut [u32], n: usize, p: Slope) -> Counts
+    requires { ⌜ Roomy n (now w) × Near (as-slope p) ⌝ }
+    ensures { λ r. ⌜ Parted n (now (w .entry)) (now (w .exit)) (as-slope p) r ⌝ }
 {
     let mut below: usize = 0;
     let mut above: usize = 0;
     let mut i = 0;
     while i < n {
         let s = slope_at(w, i);
+        copy(w, i, n + above);
+        copy(w, i, below);
         below += less(s, p) as usize;
         above += less(p, s) as usize;
         i += 1;
@@ -30,28 +35,16 @@ fn count(w: &[u32], n: usize, p: Slope) -> Counts
     Counts { below, above }
 }
 
-// s lies above p, or below it.
-fn is_beyond(s: Slope, p: Slope, up: bool) -> bool
-    requires { ⌜ Near (as-slope s) × Near (as-slope p) ⌝ }
-    ensures { λ r. ⌜ r ≡ beyond up (as-slope p) (as-slope s) ⌝ }
+// The m slopes behind the first n, at the front.
+fn front(w: &mut [u32], n: usize, m: usize)
+    requires { ⌜ (m ≤ n) × (4 * n ≤ length (now w)) ⌝ }
+    ensures { λ _. ⌜ Alike (2 * m) (drop (2 * n) (now (w .entry))) (now (w .exit)) ⌝ }
 {
-    if up { less(p, s) } else { less(s, p) }
-}
-
-// Keeps the slopes above p, or those below it, at the front in their order, and says how many they are. Each is stored, and the place moves on by the test.
-fn keep(w: &mut [u32], n: usize, p: Slope, up: bool) -> usize
-    requires { ⌜ Listed n (now w) × Near (as-slope p) ⌝ }
-    ensures { λ r. ⌜ Kept (beyond up (as-slope p)) n (now (w .entry)) (now (w .exit)) r ⌝ }
-{
-    let mut k: usize = 0;
     let mut i = 0;
-    while i < n {
-        let s = slope_at(w, i);
-        copy(w, i, k);
-        k += is_beyond(s, p, up) as usize;
+    while i < m {
+        copy(w, n + i, i);
         i += 1;
     }
-    k
 }
 
 // How many slopes are left, and which rank is sought among them.
@@ -65,16 +58,19 @@ pub fn narrow(w: &mut [u32], n: usize, r: usize, p: Slope) -> Rest
     requires { ⌜ Pickable n r (now w) × List·Memᴰ (as-slope p) (fractions n (now w)) ⌝ }
     ensures { λ s. ⌜ Narrowed n r (now (w .entry)) (now (w .exit)) (as-slope p) (s .n) (s .r) ⌝ }
 {
-    let c = count(w, n, p);
+    let c = part(w, n, p);
     let below = c.below;
-    let upto = n - c.above;
+    let above = c.above;
+    let upto = n - above;
     if r <= below {
-        let k = keep(w, n, p, false);
-        return Rest { n: k, r };
+        return Rest { n: below, r };
     }
     if r <= upto {
         return Rest { n: 0, r };
     }
-    let k = keep(w, n, p, true);
-    Rest { n: k, r: r - upto }
+    front(w, n, above);
+    Rest {
+        n: above,
+        r: r - upto,
+    }
 }

@@ -3,3 +3,4 @@ mod Passing
 mod Cutting
 mod Halving
 mod Sides
+mod Two

@@ -8,7 +8,7 @@ use bridge::Ends;
 use bridge::bridge_of;
 use ends::together;
 use samples::position::east;
-ghost use mathlib.Core.Bool.{_&&_};
+ghost use mathlib.Core.Bool.{cond, _&&_};
 ghost use mathlib.Core.Path.{_≡_};
 ghost use Prim.Native.Nat.{_<_};
 ghost use lib.Signed.{leZ, ltZ};
@@ -132,8 +132,16 @@ fn step(e: &[i32], n: &[i32], lower: bool, w: &mut [u32], t: usize, p: u32, q: u
     Stepped::Chain(both)
 }
 
+// Of two samples the one further east.
+fn further(e: &[i32], x: u32, y: u32) -> u32
+    requires { ⌜ (x < length (now e)) × (y < length (now e)) ⌝ }
+    ensures { λ r. ⌜ r ≡ cond (ltZ (east-of (now (e .entry)) y) (east-of (now (e .entry)) x)) x y ⌝ }
+{
+    if east(e, y) < east(e, x) { x } else { y }
+}
+
 // The chain from p to q of the t numbers at the front of w, left at the front by the lowest sample number at each corner. Ends at one position make no
-// step.
+// step; two samples at two positions are the chain themselves.
 pub fn chain(e: &[i32], n: &[i32], lower: bool, w: &mut [u32], t: usize, p: u32, q: u32) -> Stepped
     requires { ⌜ ChainAsks (now e) (now n) lower (now w) t p q ⌝ }
     ensures { λ r. ⌜ ChainSays (at (now (e .entry)) (now (n .entry)) lower) (number-at (now (e .entry)) (now (n .entry)) lower) (take t (now (w .entry))) r (now (w .exit)) ⌝ }
@@ -141,6 +149,11 @@ pub fn chain(e: &[i32], n: &[i32], lower: bool, w: &mut [u32], t: usize, p: u32,
     if together(e, n, lower, p, q) {
         w[0] = p;
         return Stepped::Chain(1);
+    }
+    if t == 2 {
+        w[1] = further(e, w[0], w[1]);
+        w[0] = p;
+        return Stepped::Chain(2);
     }
     step(e, n, lower, w, t, p, q)
 }

@@ -1,23 +1,24 @@
 -- The chain of a list and a step over it, which call each other, meet their contracts. The chain of a list of t measures 2t + 1, and a step over it 2t.
 -- Assumes nothing.
 use mathlib.Core.Path.{_≡_, sym, _∙_, subst, subst₂}
-use mathlib.Core.Logic.{_≢_}
+use mathlib.Core.Bool.{Bool}
 use mathlib.Core.List.{List}
-use Prim.Native.Nat.{ℕ, _+_, _-_, _*_, _<_}
+use Prim.Native.Nat.{ℕ, _+_, _-_, _*_, _≤_, _<_}
 use borrow.Fn.Kinds.{In}
 use borrow.Fn.PlainCycle.{Measures, is, falls, and}
 use borrow.Author.Needs.{needs, sfits-of}
 use mir.Facts.{toZ-ofZ}
 use lib.IntN.{ℤ}
-use lib.ListN.{length, take}
+use lib.ListN.{length, take, set, length-set}
 use native.Mathlib.Omega.{arith}
 use borrow.Rule.Slice.PartMut.{midOf, putMid, same-len-mid}
 use Rattle.outline.specs.Lists.{same-equal, same-no}
 use Rattle.samples.specs.Positions.{at}
 use Rattle.step.specs.declared.Parted.{Parted}
 use Rattle.step.specs.declared.Stepped.{Stepped}
-use Rattle.step.specs.Stepping.{number-at, SplitSays, ChainSays}
+use Rattle.step.specs.Stepping.{number-at, SplitSays, StepAsks, ChainIs, ChainSays}
 use Rattle.step.proofs.Sides.{some-room, alone-is, cut-asks, split-asks, over-cut, Parts, parts, spare, right-fits, left-less, left-asks, LeftMade, left-made, behind-asks, Copied, right-copied, right-starts, right-less, right-asks, BothMade, both-made, front-asks, chain-is}
+use Rattle.step.proofs.Two.{pair-below, pair-is}
 use Rattle.step.proofs.chain.Reads as chain
 use Rattle.step.proofs.chain.Kinds as chain-kinds
 use Rattle.step.proofs.+chain+step.Lts-chain as chain-lts
@@ -26,6 +27,7 @@ use Rattle.step.proofs.step.Kinds as step-kinds
 use Rattle.step.proofs.+chain+step.Lts-step as step-lts
 use Rattle.step.proofs.cut.Reads as cut-reads
 use Rattle.step.proofs.ends.together.Reads as together-reads
+use Rattle.step.proofs.further.Reads as further-reads
 use Rattle.step.proofs.moves.copy.Reads as copy-reads
 use Rattle.step.proofs.split.Reads as split-reads
 use Rattle.step.proofs.+chain+step.{statement}
@@ -50,7 +52,7 @@ abbrev step-below : ℕ → In 3 step-kinds.ps
 step-below t = and 3 step-kinds.ps (falls 3 step-kinds.ps _<_ μ-step t) step.Pre
 
 abbrev chain-claims : ℕ → chain-lts.Claims
-chain-claims t = (together-reads.Asked, together-reads.Learnt, step-below t, step.Post)
+chain-claims t = (together-reads.Asked, together-reads.Learnt, further-reads.Asked, further-reads.Learnt, step-below t, step.Post)
 
 abbrev step-claims : ℕ → step-lts.Claims
 step-claims t = (cut-reads.Asked, cut-reads.Learnt, split-reads.Asked, split-reads.Learnt, chain-below t, chain.Post, copy-reads.Asked, copy-reads.Learnt)
@@ -58,17 +60,58 @@ step-claims t = (cut-reads.Asked, cut-reads.Learnt, split-reads.Asked, split-rea
 -- ---- the chain of a list
 
 -- ends at two positions
-far : (t : ℕ) (c : chain-lts.After-step-arg (chain-claims t) (chain-at t) chain.Post) → let a = c .before .before .before .before .args in
-    at (a .e .now) (a .n .now) (a .lower) (a .p) ≢ at (a .e .now) (a .n .now) (a .lower) (a .q)
-far t c =
-    let a = c .before .before .before .before .args in
-    same-no (at (a .e .now) (a .n .now) (a .lower) (a .p)) (at (a .e .now) (a .n .now) (a .lower) (a .q))
-    (sym (c .before .before .together .ensures) ∙ c .before .if1 .left)
+module _ (t : ℕ) (c : chain-lts.Else1 (chain-claims t) (chain-at t) chain.Post) where
+  abbrev given : chain-lts.Start (chain-claims t) (chain-at t) chain.Post
+  given = c .before .before .before
+
+  abbrev es : List ℤ
+  es = given .args .e .now
+
+  abbrev ns : List ℤ
+  ns = given .args .n .now
+
+  abbrev lower : Bool
+  lower = given .args .lower
+
+  stepped : StepAsks es ns lower (given .args .w .now) (given .args .t) (given .args .p) (given .args .q)
+  stepped =
+      record {
+        asks = given .pre .1;
+        far =
+            same-no (at es ns lower (given .args .p)) (at es ns lower (given .args .q))
+            (sym (c .before .together .ensures) ∙ c .if1 .left);
+      }
 
 chain-step-requires : (t : ℕ) → chain-lts.Need-step-requires (chain-claims t) (chain-at t) chain.Post
-chain-step-requires t c κs =
-    let s = c .before .before .before .before in
-    (omega (arith, s .pre .0), record { asks = s .pre .1; far = far t c })
+chain-step-requires t c κs = let d = c .before .before in (omega (arith, given t d .pre .0), stepped t d)
+
+-- two numbers
+
+module _ (t : ℕ) (c : chain-lts.Then2 (chain-claims t) (chain-at t) chain.Post) where
+  abbrev apart : chain-lts.Else1 (chain-claims t) (chain-at t) chain.Post
+  apart = c .before
+
+  pair-asks : let a = given t apart .args in StepAsks (a .e .now) (a .n .now) (a .lower) (a .w .now) 2 (a .p) (a .q)
+  pair-asks =
+      let a = given t apart .args in
+      subst (λ (n : ℕ). StepAsks (a .e .now) (a .n .now) (a .lower) (a .w .now) n (a .p) (a .q)) (c .if2 .taken) (stepped t apart)
+
+  pair-long : 8 ≤ length (given t apart .args .w .now)
+  pair-long = pair-asks .asks .room
+
+chain-further-requires : (t : ℕ) → chain-lts.Need-further-requires (chain-claims t) (chain-at t) chain.Post
+chain-further-requires t c κs =
+    let d = c .before .before in
+    pair-below (given t (apart t d) .args .w .now) (omega (arith, pair-long t d)) (pair-asks t d .asks .listed)
+
+chain-returns-2 : (t : ℕ) → chain-lts.Need-returns-2 (chain-claims t) (chain-at t) chain.Post
+chain-returns-2 t c =
+    let d = c .before .before .before in
+    let a = given t (apart t d) .args in
+    subst₂ (λ (n y : ℕ). ChainIs (at (a .e .now) (a .n .now) (a .lower)) (number-at (a .e .now) (a .n .now) (a .lower)) (take n (a .w .now)) 2 (set (set (a .w .now) 1 y) 0 (a .p)))
+    (sym (d .if2 .taken))
+    (sym (c .further .ensures))
+    (pair-is (a .w .now) (pair-asks t d))
 
 chain-slice-write-w : (t : ℕ) → chain-lts.Need-slice-write-w (chain-claims t) (chain-at t) chain.Post
 chain-slice-write-w t c = let s = c .before .before .before in some-room (s .pre .1)
@@ -324,6 +367,15 @@ pub +chain+step-spec : {M : Type 1} → statement M
     (chain-slice-write-w t)
     (λ c. search needs)
     (chain-returns t)
+    (λ c. omega (arith, pair-long t (c .before)))
+    (λ c. omega (arith, pair-long t (c .before .before)))
+    (chain-further-requires t)
+    (λ c. omega (arith, pair-long t (c .before .before .before)))
+    (λ c.
+    let d = c .before .before .before in
+    omega (arith, pair-long t d, length-set (given t (apart t d) .args .w .now) 1 (c .further .result)))
+    (λ c. search needs)
+    (chain-returns-2 t)
     (chain-step-requires t)
     (λ c. search needs)
     (λ c. c .before .before .step .ensures))

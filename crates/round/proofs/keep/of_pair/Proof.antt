@@ -1,6 +1,7 @@
 -- `round::keep::of_pair` meets its contract: each return is what the tested orders leave of the pair. Assumes nothing.
-use mathlib.Core.Path.{_≡_, sym, ap, ap₂, _∙_, subst}
-use mathlib.Core.Bool.{Bool, true, not}
+use mathlib.Core.Path.{_≡_, refl, sym, ap, ap₂, _∙_, subst}
+use mathlib.Core.Bool.{Bool, cond, not, _||_}
+use mathlib.Core.Logic.{_≢_}
 use Prim.Native.Nat.{ℕ, _^_, _<_}
 use borrow.Author.Needs.{needs, sfits-of}
 use lib.IntN.{ℤ, pos}
@@ -14,7 +15,7 @@ use Rattle.slopes.specs.Fractions.{as-slope}
 use Rattle.samples.specs.Positions.{Near, at}
 use Rattle.samples.specs.Samples.{near-at}
 use Rattle.round.specs.Keeping.{excess, towards, chosen}
-use Rattle.round.proofs.Choosing.{west-pair-west, west-pair-east, east-pair-west, east-pair-east, upright-pair}
+use Rattle.round.proofs.Choosing.{apart, level, slanted-pair, upright-pair}
 use Rattle.round.proofs.keep.of_pair.Statement.{statement}
 use Rattle.round.proofs.keep.of_pair.Tie as tie
 
@@ -56,13 +57,20 @@ module _ (d : tie.After-struct-told2) where
   abbrev y : ℕ
   y = start .args .y
 
+  -- the two easts
+  first-part : first .position-of .result .east ≡ places x .east
+  first-part = ap (λ (s : Stream). s .east) (first .position-of .ensures)
+
+  second-part : second .position-of2 .result .east ≡ places y .east
+  second-part = ap (λ (s : Stream). s .east) (second .position-of2 .ensures)
+
   -- the numbers of the two positions, as words
   first-east : toZ w64 (ofZ w64 (first .position-of .result .east)) ≡ places x .east
   first-east =
-      read (first .position-of .result .east) (d .before .before .struct-told .given .0 .1) (ap (λ (s : Stream). s .east) (first .position-of .ensures))
+      read (first .position-of .result .east) (d .before .before .struct-told .given .0 .1) first-part
 
   second-east : toZ w64 (ofZ w64 (second .position-of2 .result .east)) ≡ places y .east
-  second-east = read (second .position-of2 .result .east) (d .struct-told2 .given .0 .1) (ap (λ (s : Stream). s .east) (second .position-of2 .ensures))
+  second-east = read (second .position-of2 .result .east) (d .struct-told2 .given .0 .1) second-part
 
   first-north : toZ w64 (ofZ w64 (first .position-of .result .north)) ≡ places x .north
   first-north =
@@ -82,10 +90,6 @@ module _ (d : tie.After-struct-told2) where
       ≡ ltZ (toZ w64 (ofZ w64 (first .position-of .result .east))) (toZ w64 (ofZ w64 (second .position-of2 .result .east)))
   rising = sym (ap₂ ltZ first-east second-east)
 
-  falling : ltZ (places y .east) (places x .east)
-      ≡ ltZ (toZ w64 (ofZ w64 (second .position-of2 .result .east))) (toZ w64 (ofZ w64 (first .position-of .result .east)))
-  falling = sym (ap₂ ltZ second-east first-east)
-
   norths : ltZ (places x .north) (places y .north)
       ≡ ltZ (toZ w64 (ofZ w64 (first .position-of .result .north))) (toZ w64 (ofZ w64 (second .position-of2 .result .north)))
   norths = sym (ap₂ ltZ first-north second-north)
@@ -96,46 +100,30 @@ module _ (d : tie.After-struct-told2) where
   above : ltZ (pos 0) (excess K (places x) (places y)) ≡ ltZ (pos 0) (toZ w64 (ofZ w64 (found .excess .result)))
   above = ap (ltZ (pos 0)) (sym over-is)
 
-  -- the side that the tops lie on
-  side : {l b : Bool} → l ≡ b → keeps places (towards l K) (pair x y) ≡ keeps places (towards b K) (pair x y)
-  side p = ap (λ (l : Bool). keeps places (towards l K) (pair x y)) p
-
 returns : tie.Need-returns
 returns c =
-    let d = c .before .before in
-    side d (c .if2 .taken)
-    ∙ west-pair-west (places d) (K d) (x d) (y d) (rising d ∙ c .before .if1 .taken)
-    ∙ ap (λ (b : Bool). chosen b true (x d) (y d)) (below d)
+    let d = c .before .before .before .before .before .before in
+    let west = start d .args .west in
+    let differ : places d (x d) .east ≢ places d (y d) .east =
+    λ e. c .before .before .before .before .before .if1 .taken (ap (ofZ w64) (first-part d ∙ e ∙ sym (second-part d)))
+    in
+    let far : cond (ltZ (places d (x d) .east) (places d (y d) .east)) west (not west) ≡ c .beyond .result =
+    ap (λ (r : Bool). cond r west (not west)) (rising d) ∙ sym (c .beyond .ensures)
+    in
+    slanted-pair (places d) (K d) (x d) (y d) (ltZ (places d (x d) .east) (places d (y d) .east)) west refl
+    (apart (places d (x d) .east) (places d (y d) .east) differ)
+    ∙ ap₂ (λ (f g : Bool). chosen f g (x d) (y d)) (ap₂ (λ (o b : Bool). not o || b) far (below d)) (ap₂ _||_ far (above d))
 
 returns-2 : tie.Need-returns-2
 returns-2 c =
-    let d = c .before .before in
-    side d (c .if2 .left)
-    ∙ west-pair-east (places d) (K d) (x d) (y d) (rising d ∙ c .before .if1 .taken)
-    ∙ ap (λ (b : Bool). chosen true b (x d) (y d)) (above d)
-
-returns-3 : tie.Need-returns-3
-returns-3 c =
-    let d = c .before .before .before .before .before .before .before in
-    side d (c .if4 .taken)
-    ∙ east-pair-west (places d) (K d) (x d) (y d) (rising d ∙ c .before .before .before .before .before .before .if1 .left) (falling d ∙ c .before .if3 .taken)
-    ∙ ap (λ (b : Bool). chosen true b (x d) (y d)) (above d)
-
-returns-4 : tie.Need-returns-4
-returns-4 c =
-    let d = c .before .before .before .before .before .before .before in
-    side d (c .if4 .left)
-    ∙ east-pair-east (places d) (K d) (x d) (y d) (rising d ∙ c .before .before .before .before .before .before .if1 .left) (falling d ∙ c .before .if3 .taken)
-    ∙ ap (λ (b : Bool). chosen b true (x d) (y d)) (below d)
-
-returns-5 : tie.Need-returns-5
-returns-5 c =
-    let d = c .before .before .before .before .before .before .before .before .before .before in
-    upright-pair (places d) (K d) (x d) (y d) (rising d ∙ c .before .before .before .before .before .before .before .before .before .if1 .left) _
-    (falling d ∙ c .before .before .before .before .if3 .left)
+    let d = c .before .before .before .before .before in
+    let equal : places d (x d) .east ≡ places d (y d) .east =
+    sym (first-east d) ∙ ap (toZ w64) (c .before .before .before .before .if1 .left) ∙ second-east d
+    in
+    upright-pair (places d) (K d) (x d) (y d) (level equal) _ (level (sym equal))
     ∙ ap (λ (b : Bool). chosen (not b) b (x d) (y d)) (norths d)
 
 pub of-pair-spec : {M : Type 1} → statement M
 of-pair-spec =
     tie.close
-    (tie.spec (λ c κs. search needs) (λ c κs. search needs) excess-requires returns returns-2 returns-3 returns-4 returns-5)
+    (tie.spec (λ c κs. search needs) (λ c κs. search needs) excess-requires (λ c κs. search needs) returns returns-2)

@@ -1,73 +1,55 @@
 -- `slopes::scan::narrow` meets its contract: the counts say on which side of the pivot the rank lies. Assumes nothing.
 use native.Mathlib.Omega.{arith}
+use mathlib.Core.Path.{_∙_}
 use borrow.Author.Needs.{needs}
-use Rattle.rules.specs.Round.{slope-le}
-use Rattle.ranks.specs.Ranks.{over}
-use Rattle.slopes.specs.Fractions.{as-slope}
 use Rattle.slopes.specs.Laws.{near-of}
-use Rattle.slopes.specs.Steps.{listed-of, count-most, narrowed-below, narrowed-above, narrowed-none}
+use Rattle.slopes.specs.Steps.{roomy, kept-count, kept-most, kept-alike, narrowed-below, narrowed-above, narrowed-none}
 use Rattle.slopes.proofs.scan.narrow.Statement.{statement}
 use Rattle.slopes.proofs.scan.narrow.Tie as tie
 
-count-requires : tie.Need-count-requires
-count-requires c κs = let h = c .before .before .pre in (listed-of (h .0), near-of (h .0 .sound) (h .1))
+part-requires : tie.Need-part-requires
+part-requires c κs = let h = c .before .before .pre in (roomy (h .0), near-of (h .0 .sound) (h .1))
 
 sub-upto : tie.Need-sub-upto
-sub-upto c =
-    let a = c .before .before .before .before .args in
-    let e = c .before .count .ensures .above-is in
-    omega (arith, count-most (over slope-le (as-slope (a .p))) (a .n) (a .w .now))
-
-keep-requires : tie.Need-keep-requires
-keep-requires c κs = let h = c .before .before .before .before .before .before .pre in (listed-of (h .0), near-of (h .0 .sound) (h .1))
-
-same-length : tie.Need-same-length
-same-length c = search needs
+sub-upto c = kept-most (c .before .before .part .ensures .above-kept)
 
 returns : tie.Need-returns
 returns c =
-    let s = c .before .before .before .before .before .before .before .before .before in
-    let k = c .before .before .keep in
-    let test = c .before .before .before .before .if1 .taken in
-    narrowed-below (s .pre .0) (s .pre .1) (k .kept .0) (k .ensures) (omega (arith, c .before .before .before .before .before .before .count .ensures .below-is))
-
-same-length-2 : tie.Need-same-length-2
-same-length-2 c = search needs
+    let p = c .before .before .before .part in
+    let s = c .before .before .before .before .before .before in
+    let test = c .if1 .taken in
+    narrowed-below (s .pre .0) (s .pre .1) (p .kept .0) (p .ensures .below-kept) (omega (arith, kept-count (p .ensures .below-kept)))
 
 returns-2 : tie.Need-returns-2
 returns-2 c =
-    let s = c .before .before .before .before .before .before in
-    let e = c .before .before .before .count .ensures in
-    narrowed-none (s .pre .0) (s .pre .1) (omega (arith, e .below-is)) (e .above-is) (omega arith)
+    let p = c .before .before .before .before .part in
+    let s = c .before .before .before .before .before .before .before in
+    let more = c .before .if1 .left in
+    let test = c .if2 .taken in
+    narrowed-none (s .pre .0) (s .pre .1) (omega (arith, kept-count (p .ensures .below-kept))) (kept-count (p .ensures .above-kept)) (omega arith)
 
-keep-requires-2 : tie.Need-keep-requires-2
-keep-requires-2 c κs = let h = c .before .before .before .before .before .before .before .pre in (listed-of (h .0), near-of (h .0 .sound) (h .1))
-
-sub-t17 : tie.Need-sub-t17
-sub-t17 c = search needs
+front-requires : tie.Need-front-requires
+front-requires c κs =
+    let p = c .before .before .before .before .before .part in
+    let s = c .before .before .before .before .before .before .before .before in
+    let room = s .pre .0 .room in
+    let long = p .kept .0 in
+    (kept-most (p .ensures .above-kept), omega arith)
 
 same-length-3 : tie.Need-same-length-3
 same-length-3 c = search needs
 
 returns-3 : tie.Need-returns-3
 returns-3 c =
-    let s = c .before .before .before .before .before .before .before .before .before .before in
-    let k = c .before .before .keep2 in
-    let test = c .before .before .before .before .if2 .left in
-    narrowed-above (s .pre .0) (s .pre .1) (k .kept .0) (k .ensures) (c .before .before .before .before .before .before .before .count .ensures .above-is) (omega arith)
+    let f = c .before .before .front in
+    let e = c .before .before .before .before in
+    let p = e .before .before .before .before .part in
+    let s = e .before .before .before .before .before .before .before in
+    let kept = kept-alike (p .ensures .above-kept) (f .ensures) in
+    let test = e .if2 .left in
+    narrowed-above (s .pre .0) (s .pre .1) (f .kept .0 ∙ p .kept .0) kept (kept-count kept) (omega arith)
 
 pub narrow-spec : {M : Type 1} → statement M
 narrow-spec =
     tie.close
-    (tie.spec
-    count-requires
-    sub-upto
-    keep-requires
-    same-length
-    returns
-    same-length-2
-    returns-2
-    keep-requires-2
-    sub-t17
-    same-length-3
-    returns-3)
+    (tie.spec part-requires sub-upto (λ c. search needs) returns (λ c. search needs) returns-2 front-requires (λ c. search needs) (λ c. search needs) returns-3)
