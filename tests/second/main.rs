@@ -3,8 +3,7 @@
 //! `second self` holds the rules of this program against a still plainer way, and against the soundings.
 //! `second [driver=COMMAND] ENTRY..` compares each named entry, and says how many cases it compared; first the soundings that are run.
 //! `second [driver=COMMAND] stack ENTRY..` compares each entry named after it on a stack of 65,536 bytes, and says how deep it went.
-//! `second [status] program=FILE` compares the x86-64 program in that file; `second [status] command=FILE` what starts by itself, on a few texts. After
-//! `status` its exit status is compared too.
+//! `second program=FILE` compares the x86-64 program in that file; `second command=FILE` what starts by itself, on a few texts.
 //! `second entries` prints the names of the entries.
 //! Ends with status 1 at the first difference, 2 if it is not asked for anything.
 
@@ -41,15 +40,14 @@ fn compare(driver: &str, entry: &Cases) {
 
 fn main() {
     let mut driver = "tests/driver/run".to_string();
-    let (mut on_small_stack, mut status) = (false, false);
+    let mut on_small_stack = false;
     let mut asked = 0;
     for word in std::env::args().skip(1) {
         asked += 1;
         match word.split_once('=').unwrap_or((&word, "")) {
             ("driver", command) => driver = command.to_string(),
-            ("program", file) => program::compare(&program::started_by_kit(file), status, program::texts()),
-            ("command", file) => program::compare(&[file.to_string()], status, program::few_texts()),
-            ("status", _) => status = true,
+            ("program", file) => program::compare(&program::started_by_kit(file), program::texts()),
+            ("command", file) => program::compare(&[file.to_string()], program::few_texts()),
             ("self", _) => own::check(),
             ("entries", _) => cases::ENTRIES.iter().for_each(|cases| println!("{}", cases.name)),
             ("stack", _) => {
@@ -61,7 +59,7 @@ fn main() {
         }
     }
     if asked == 0 {
-        println!("usage: second self | entries | [driver=COMMAND] [stack] ENTRY.. | [status] program=FILE | [status] command=FILE");
+        println!("usage: second self | entries | [driver=COMMAND] [stack] ENTRY.. | program=FILE | command=FILE");
         exit(2)
     }
 }

@@ -31,35 +31,32 @@ fn shown(bytes: &[u8]) -> String {
     format!("{} bytes: {:?}{rest}", bytes.len(), String::from_utf8_lossy(&bytes[..bytes.len().min(SHOWN)]))
 }
 
-/// The status is 0 for a ring and 1 for a refusal, where that is compared; else the program has only to end by itself.
-fn compare_one(words: &[String], with_status: bool, text: &[u8]) {
+/// The status is 0, for a ring and for a refusal.
+fn compare_one(words: &[String], text: &[u8]) {
     let rules = program(text);
     let difference = match written(words, text) {
         Err(error) => format!("the program does not run: {error}"),
         Ok((wrote, _)) if wrote != rules.as_bytes() => format!("the rules write {}\nthe program wrote {}", shown(rules.as_bytes()), shown(&wrote)),
         Ok((_, None)) => "the program was ended by a signal".to_string(),
-        Ok((_, Some(status))) if with_status && status != i32::from(!rules.starts_with("ring")) => {
-            format!("the rules write {}, and the program's status is {status}", shown(rules.as_bytes()))
-        }
-        Ok(_) => return,
+        Ok((_, Some(0))) => return,
+        Ok((_, Some(status))) => format!("the program's status is {status}"),
     };
     fail(format!("DIFFERENCE\nstandard input, {}\n{difference}", shown(text)))
 }
 
 /// Compares the program that some words start, on all texts. Ends this program at the first difference. Many texts are shared out to the processors; a few
 /// are run one after another.
-pub fn compare(words: &[String], with_status: bool, texts: Vec<Vec<u8>>) {
+pub fn compare(words: &[String], texts: Vec<Vec<u8>>) {
     let start = Instant::now();
     let processors = std::thread::available_parallelism().map_or(1, |count| count.get());
     let workers = if texts.len() < 100 { 1 } else { processors };
     std::thread::scope(|scope| {
         for worker in 0..workers {
             let own = texts.iter().skip(worker).step_by(workers);
-            scope.spawn(move || own.for_each(|text| compare_one(words, with_status, text)));
+            scope.spawn(move || own.for_each(|text| compare_one(words, text)));
         }
     });
-    let what = if with_status { "output and status" } else { "output" };
-    println!("{}: {what} of {} texts compared, all agree ({:.1} s)", words[words.len() - 1], texts.len(), start.elapsed().as_secs_f64());
+    println!("{}: output and status of {} texts compared, all agree ({:.1} s)", words[words.len() - 1], texts.len(), start.elapsed().as_secs_f64());
 }
 
 pub const INPUT_A: &[u8] = b"0 0\n4 0\n4 3\n0 3\n2 1\n2 5\n4 0\n";
