@@ -9,7 +9,8 @@ use native.Mathlib.Omega.{arith}
 use lib.IntN.{ℤ, pos}
 use lib.Signed.{mag}
 use lib.ListN.{length, getD, take, set, length-set}
-use lib.Seq.{take-suc, take-all, take-suc-set}
+use lib.Seq.{take-all, take-suc-set}
+use Rattle.ranks.specs.Kept.{first-more}
 use Rattle.picker.specs.Keys.{key-of, Words}
 
 pub record Loading (xs : List ℤ) (given now : List ℕ) (i : ℕ) : Type 0 where
@@ -20,9 +21,6 @@ pub record Loading (xs : List ℤ) (given now : List ℕ) (i : ℕ) : Type 0 whe
 module _ (xs : List ℤ) (given : List ℕ) where
   pub loading-none : Loading xs given given 0
   loading-none = record { keys = refl; words = λ x m. absurd (List·Memᴰ·not-nil m); long = refl }
-
-  one-more : (i : ℕ) → i < length xs → take (i + 1) xs ≡ take i xs ++ (getD xs i (pos 0) ∷ [])
-  one-more i h = ap (λ (n : ℕ). take n xs) (add-one i) ∙ take-suc xs i (pos 0) h
 
   pub loading-more : {now : List ℕ} {i v : ℕ}
       → i < length xs
@@ -39,8 +37,8 @@ module _ (xs : List ℤ) (given : List ℕ) where
             ∙ take-suc-set now i v (omega arith)
             ∙ ap₂ (λ (l : List ℕ) (k : ℕ). l ++ (k ∷ [])) (t .keys) e
             ∙ sym (map-append key-of (take i xs) (getD xs i (pos 0) ∷ []))
-            ∙ ap (map key-of) (sym (one-more i h));
-        words = subst⁻¹ Words (one-more i h) (λ x m. either x (List·Memᴰ·append-cases (take i xs) m));
+            ∙ ap (map key-of) (sym (first-more (pos 0) xs i h));
+        words = subst⁻¹ Words (first-more (pos 0) xs i h) (λ x m. either x (List·Memᴰ·append-cases (take i xs) m));
         long = length-set now i v ∙ t .long;
       }
     where

@@ -1,174 +1,180 @@
--- What the passes over keys keep: a tally of the keys that passed a test, the kept keys at the front, a key of the rank ahead.
--- Each has its laws: at the start, after one more key, at the end. Assumes nothing.
-use mathlib.Core.Path.{_≡_, refl, sym, ap, ap₂, _∙_, subst}
-use mathlib.Core.Bool.{Bool, true, false}
-use mathlib.Core.List.{List, [], _∷_, _++_, append-nil, List·Memᴰ, List·Memᴰ·not-nil, List·Memᴰ·cases-cons}
-use mathlib.Core.Logic.{_⊎_, inl, inr}
-use Prim.Native.Nat.{ℕ, suc, _+_, _≤_, _<_, zero-le, suc-le-suc}
-use native.Mathlib.Nat.{le-refl, add-zero}
+-- What the passes over keys keep: keys parted at a pivot, keys moved to the front, the least key taken out. Each has its laws: at the start, after one more
+-- key, at the end. Assumes nothing.
+use mathlib.Core.Path.{_≡_, refl, sym, ap₂, _∙_, subst₂}
+use mathlib.Core.Bool.{Bool, true, false, cond, not}
+use mathlib.Core.List.{List, [], _∷_, _++_}
+use Prim.Native.Nat.{ℕ, _+_, _-_, _*_, _≤_, _<_, min, max, zero-le}
 use native.Mathlib.Numerals.{add-one}
 use native.Mathlib.Omega.{arith}
-use borrow.Author.Tests.{leb-true, leb-false}
 use mir.Val.{boolByte}
-use lib.Dec.{leb}
-use lib.ListN.{length, getD, take, drop, set, length-take, length-set}
-use lib.Seq.{take-suc, take-all, take-suc-set, take-set-le, drop-set-lt, getD-drop, drop-drop}
-use Rattle.rules.specs.Lists.{those, consIf}
-use Rattle.ranks.specs.Counts.{bit, count, count-append, count-le-length, those-append}
-use Rattle.ranks.specs.Ranks.{HasRank, upto, ranked-has-rank, ranked-in}
-use Rattle.ranks.specs.Numbers.{natural-order}
-use Rattle.picker.specs.Picking.{Counted, Kept}
-use Rattle.picker.specs.declared.scan.Counts.{Counts}
+use borrow.Author.Tests.{leb-true, leb-false}
+use lib.Dec.{leb, ltb}
+use lib.ListN.{length, getD, take, drop, set, length-take, length-drop, length-set}
+use lib.Seq.{take-suc, take-suc-set, take-set-le, drop-set-lt, drop-set-add, getD-drop, getD-set-other}
+use Rattle.ranks.specs.Kept.{first-more, stored, Kept, kept-none, kept-more, kept-most, kept-same}
+use Rattle.ranks.specs.Ranks.{OrderOn, order-on, HasRank, under, over}
+use Rattle.ranks.specs.Least.{LeastOut, out-one, out-more, out-first, out-next}
+use Rattle.ranks.specs.Numbers.{natural-order, natural-under}
+use Rattle.picker.specs.Picking.{Pickable, Parted}
 
-byte-bit : (b : Bool) → boolByte b ≡ bit b
-byte-bit true = refl
-byte-bit false = refl
+-- ---- keys parted
 
-byte-small : (b : Bool) → boolByte b ≤ 1
-byte-small true = omega arith
-byte-small false = zero-le
-
--- ---- a tally
-
--- k of the first i keys pass the test
-pub record Tally (f : ℕ → Bool) (xs : List ℕ) (i k : ℕ) : Type 0 where
-  pub within : i ≤ length xs
-  pub tally : k ≡ count f (take i xs)
-
-module _ (f : ℕ → Bool) (xs : List ℕ) where
-  pub tally-none : Tally f xs 0 0
-  unfolding count
-  tally-none = record { within = zero-le; tally = refl }
-
-  one : (x : ℕ) → count f (x ∷ []) ≡ bit (f x)
-  unfolding count
-  one x = omega arith
-
-  pub tally-more : (i k : ℕ) (b : Bool) → b ≡ f (getD xs i 0) → i < length xs → Tally f xs i k → Tally f xs (i + 1) (k + boolByte b)
-  tally-more i k b e h t =
-      record {
-        within = omega arith;
-        tally =
-            ap₂ _+_ (t .tally) (byte-bit b ∙ ap bit e ∙ sym (one (getD xs i 0)))
-            ∙ sym (count-append f (take i xs) (getD xs i 0 ∷ []))
-            ∙ ap (count f) (sym (take-suc xs i 0 h) ∙ ap (λ (n : ℕ). take n xs) (sym (add-one i)));
-      }
-
-  pub tally-small : {i k : ℕ} → Tally f xs i k → k ≤ length xs
-  tally-small {i} {k} t = let e = t .tally in omega (arith, count-le-length f (take i xs), length-take i xs)
-
-  pub tally-all : {i k : ℕ} → length xs ≤ i → Tally f xs i k → k ≡ count f xs
-  tally-all {i} h t = t .tally ∙ ap (count f) (take-all i xs h)
-
--- ---- keys kept in place
-
--- of the first i keys of the given list those that pass lie at the front, k of them; the keys from i on are still there
-pub record Keeps (f : ℕ → Bool) (given now : List ℕ) (i k : ℕ) : Type 0 where
-  pub count : Tally f given i k
-  pub behind : k ≤ i
-  pub front : take k now ≡ those f (take i given)
-  pub rest : drop i now ≡ drop i given
+-- of the first i keys those below p lie at the front, b of them, and those above it behind the n, a of them; from i on the n keys are as they came
+pub record Parting (given : List ℕ) (n p : ℕ) (now : List ℕ) (i b a : ℕ) : Type 0 where
+  pub within : i ≤ n
   pub long : length now ≡ length given
+  pub rest : (j : ℕ) → i ≤ j → j < n → getD now j 0 ≡ getD given j 0
+  pub below : Kept (under leb p) (take i given) b now
+  pub above : Kept (over leb p) (take i given) a (drop n now)
 
-module _ (f : ℕ → Bool) (given : List ℕ) where
-  pub keeps-none : Keeps f given given 0 0
-  unfolding those
-  keeps-none = record { count = tally-none f given; behind = zero-le; front = refl; rest = refl; long = refl }
-
-  -- the key at place i is still the given one
-  pub keeps-key : {now : List ℕ} {i k : ℕ} → Keeps f given now i k → i < length given → getD now i 0 ≡ getD given i 0
-  keeps-key {now} {i} t h = at now ∙ ap (λ (l : List ℕ). getD l 0 0) (t .rest) ∙ sym (at given)
-    where
-      at : (l : List ℕ) → getD l i 0 ≡ getD (drop i l) 0 0
-      at l = sym (getD-drop i l 0 0 ∙ ap (λ (n : ℕ). getD l n 0) (omega arith))
-
-  keeps-front : (now : List ℕ) (i k : ℕ) (b : Bool)
-      → b ≡ f (getD given i 0)
-      → i < length given
-      → Keeps f given now i k
-      → take (k + boolByte b) (set now k (getD now i 0)) ≡ those f (take (i + 1) given)
-  unfolding those
-  keeps-front now i k b e h t =
-      ap (λ (v : ℕ). take (k + boolByte b) (set now k v)) (keeps-key t h)
-      ∙ go b
-      ∙ ap₂ (λ (l : List ℕ) (c : Bool). l ++ consIf c x []) (t .front) e
-      ∙ sym (those-append f (take i given) (x ∷ []))
-      ∙ ap (those f) (sym (take-suc given i 0 h) ∙ ap (λ (n : ℕ). take n given) (sym (add-one i)))
-    where
-      x : ℕ
-      x = getD given i 0
-
-      room : k < length now
-      room = let a = t .behind in let l = t .long in omega arith
-
-      go : (b : Bool) → take (k + boolByte b) (set now k x) ≡ take k now ++ consIf b x []
-      go true = ap (λ (n : ℕ). take n (set now k x)) (add-one k) ∙ take-suc-set now k x room
-      go false = ap (λ (n : ℕ). take n (set now k x)) (add-zero k) ∙ take-set-le k now k x (le-refl k) ∙ sym (append-nil (take k now))
-
-  pub keeps-more : {now : List ℕ} {i k : ℕ} (b : Bool)
-      → b ≡ f (getD now i 0)
-      → i < length given
-      → Keeps f given now i k
-      → Keeps f given (set now k (getD now i 0)) (i + 1) (k + boolByte b)
-  keeps-more {now} {i} {k} b said h t =
-      let a = t .behind in
-      let e = said ∙ ap f (keeps-key t h) in
+module _ {given : List ℕ} {n p : ℕ} where
+  pub parting-none : Parting given n p given 0 0 0
+  parting-none =
       record {
-        count = tally-more f given i k b e h (t .count);
-        behind = omega (arith, byte-small b);
-        front = keeps-front now i k b e h t;
-        rest =
-            drop-set-lt (i + 1) now k (getD now i 0) (omega arith)
-            ∙ sym (drop-drop 1 i now)
-            ∙ ap (drop 1) (t .rest)
-            ∙ drop-drop 1 i given;
-        long = length-set now k (getD now i 0) ∙ t .long;
+        within = zero-le;
+        long = refl;
+        rest = λ j h l. refl;
+        below = kept-none (under leb p) given;
+        above = kept-none (over leb p) (drop n given);
       }
 
-  pub keeps-all : {now : List ℕ} {i k : ℕ} → length given ≤ i → Keeps f given now i k → Kept f given k now
-  keeps-all {now} {i} h t = record { number = tally-all f given h (t .count); front = t .front ∙ ap (those f) (take-all i given h) }
+  module _ {now : List ℕ} {i b a : ℕ} (t : Parting given n p now i b a) where
+    pub below-few : b ≤ i
+    below-few = omega (arith, kept-most (t .below), length-take i given)
 
--- ---- a key that has the rank
+    pub above-few : a ≤ i
+    above-few = omega (arith, kept-most (t .above), length-take i given)
 
--- at place i or further on lies a key of rank r
-abbrev pub Ahead : List ℕ → ℕ → ℕ → Type 0
-Ahead xs r i = (k : ℕ) × (i ≤ k) × (k < length xs) × HasRank leb r xs (getD xs k 0)
+    -- the next key
+    abbrev x : ℕ
+    x = getD now i 0
 
-place-of : (xs : List ℕ) {x : ℕ} → List·Memᴰ x xs → (k : ℕ) × (k < length xs) × (x ≡ getD xs k 0)
-place-of [] m = absurd (List·Memᴰ·not-nil m)
-place-of (y ∷ ys) {x} m = go (λ n. place-of ys n) (List·Memᴰ·cases-cons m)
+    pub parting-more : 2 * n ≤ length given → i < n
+        → Parting given n p (set (set now (n + a) x) b x) (i + 1) (b + boolByte (ltb x p)) (a + boolByte (ltb p x))
+    parting-more room h =
+        let l = t .long in
+        let few = below-few in
+        let more = above-few in
+        let first : take (i + 1) given ≡ take i given ++ (x ∷ []) = rw (first-more 0 given i (omega arith), ← t .rest i (omega arith) h) in
+        record {
+          within = omega arith;
+          long = length-set (set now (n + a) x) b x ∙ length-set now (n + a) x ∙ t .long;
+          rest =
+              λ j k m. getD-set-other (set now (n + a) x) b j x 0 (λ e. omega arith)
+              ∙ getD-set-other now (n + a) j x 0 (λ e. omega arith)
+              ∙ t .rest j (omega arith) m;
+          below =
+              rw first
+              (kept-more (kept-same (t .below) (take-set-le b now (n + a) x (omega arith))) x (ltb x p) (natural-under p x) (omega (arith, length-set now (n + a) x)));
+          above =
+              rw (first, drop-set-lt n (set now (n + a) x) b x (omega arith), drop-set-add n now a x)
+              (kept-more (t .above) x (ltb p x) (natural-under x p) (omega (arith, length-drop n now)));
+        }
+
+    pub parting-all : n ≤ i → Parted given n p (record { below = b; above = a }) now
+    parting-all h =
+        let is : i ≡ n = let k = t .within in omega arith in
+        record { below = rw is at (t .below); above = rw is at (t .above) }
+
+-- ---- keys moved to the front
+
+-- the first i of the keys behind the n lie at the front; from i on the list is as it came
+pub record Fronting (given : List ℕ) (n : ℕ) (now : List ℕ) (i : ℕ) : Type 0 where
+  pub long : length now ≡ length given
+  pub rest : (j : ℕ) → i ≤ j → getD now j 0 ≡ getD given j 0
+  pub front : take i now ≡ take i (drop n given)
+
+pub fronting-none : (given : List ℕ) (n : ℕ) → Fronting given n given 0
+fronting-none given n = record { long = refl; rest = λ j h. refl; front = refl }
+
+pub fronting-more : {given : List ℕ} {n : ℕ} {now : List ℕ} {i : ℕ}
+    → n + i < length given
+    → Fronting given n now i
+    → Fronting given n (set now i (getD now (n + i) 0)) (i + 1)
+fronting-more {given} {n} {now} {i} h t =
+    let l = t .long in
+    let x = getD now (n + i) 0 in
+    record {
+      long = length-set now i x ∙ t .long;
+      rest = λ j k. getD-set-other now i j x 0 (λ e. omega arith) ∙ t .rest j (omega arith);
+      front =
+          rw (add-one i)
+          (take-suc-set now i x (omega arith)
+          ∙ ap₂ (λ (l : List ℕ) (y : ℕ). l ++ (y ∷ [])) (t .front) (t .rest (n + i) (omega arith) ∙ sym (getD-drop n given i 0))
+          ∙ sym (take-suc (drop n given) i 0 (omega (arith, length-drop n given))));
+    }
+
+-- ---- the least key taken out
+
+-- the least of the first i + 1 keys is p, and the others lie at the front; from i + 1 on the list is as it came
+pub record Lifting (given now : List ℕ) (i p : ℕ) : Type 0 where
+  pub long : length now ≡ length given
+  pub rest : (j : ℕ) → i < j → getD now j 0 ≡ getD given j 0
+  pub out : LeastOut leb (take (i + 1) given) p (take i now)
+
+keys-order : OrderOn (λ (x : ℕ). Unit {0}) leb
+keys-order = order-on natural-order
+
+-- the lesser of two keys and the greater, as a test chooses them
+lesser-first : (p x : ℕ) (Q : ℕ → ℕ → Type 0) → Q (cond (under leb p x) x p) (cond (under leb p x) p x) → Q (min p x) (max p x)
+lesser-first p x Q = go (leb p x) refl
   where
-    later : (k : ℕ) × (k < length ys) × (x ≡ getD ys k 0) → (k : ℕ) × (k < length (y ∷ ys)) × (x ≡ getD (y ∷ ys) k 0)
-    later p = (suc (p .0), suc-le-suc (p .1), p .2)
+    go : (t : Bool) → leb p x ≡ t → Q (cond (not t) x p) (cond (not t) p x) → Q (min p x) (max p x)
+    go true e q = let h = leb-true p x e in subst₂ Q (omega arith) (omega arith) q
+    go false e q = let h = leb-false p x e in subst₂ Q (omega arith) (omega arith) q
 
-    go : (List·Memᴰ x ys → (k : ℕ) × (k < length ys) × (x ≡ getD ys k 0)) → (x ≡ y) ⊎ List·Memᴰ x ys
-        → (k : ℕ) × (k < length (y ∷ ys)) × (x ≡ getD (y ∷ ys) k 0)
-    go ih (inl e) = (0, suc-le-suc zero-le, e)
-    go ih (inr n) = later (ih n)
+pub lifting-none : (given : List ℕ) → 1 ≤ length given → Lifting given given 0 (getD given 0 0)
+lifting-none given h =
+    record { long = refl; rest = λ j k. refl; out = rw (first-more 0 given 0 h) (out-one keys-order (getD given 0 0)) }
 
-pub ahead-first : (xs : List ℕ) (r : ℕ) → 1 ≤ r → r ≤ length xs → Ahead xs r 0
-ahead-first xs r low high =
-    let p = place-of xs (ranked-in natural-order 0 r xs low high) in
-    (p .0, zero-le, p .1, subst (HasRank leb r xs) (p .2) (ranked-has-rank natural-order 0 r xs low high))
+pub lifting-more : {given now : List ℕ} {i p : ℕ}
+    → i + 1 < length given
+    → Lifting given now i p
+    → Lifting given (set now i (max p (getD now (i + 1) 0))) (i + 1) (min p (getD now (i + 1) 0))
+lifting-more {given} {now} {i} {p} h t =
+    let x = getD now (i + 1) 0 in
+    let l = t .long in
+    let left : take (i + 1) (set now i (max p x)) ≡ take i now ++ (max p x ∷ []) = stored now i (max p x) true (omega arith) in
+    record {
+      long = length-set now i (max p x) ∙ t .long;
+      rest = λ j k. getD-set-other now i j (max p x) 0 (λ e. omega arith) ∙ t .rest j (omega arith);
+      out =
+          rw (first-more 0 given (i + 1) h, ← t .rest (i + 1) (omega arith), left)
+          (lesser-first p x (λ (a b : ℕ). LeastOut leb (take (i + 1) given ++ (x ∷ [])) a (take i now ++ (b ∷ [])))
+          (out-more keys-order (λ y m. tt) (t .out) tt (under leb p x) refl));
+    }
 
--- the counts tell whether a key has the rank
-pub counted-rank : {xs : List ℕ} {p r : ℕ} {c : Counts} → Counted xs p c → c .below < r → r ≤ c .upto → HasRank leb r xs p
-counted-rank h low high = let a = h .below in let b = h .upto in record { fewer = omega arith; enough = omega arith }
+pub lifting-all : (n : ℕ) {given now : List ℕ} {i p : ℕ} → i + 1 ≡ n → Lifting given now i p → LeastOut leb (take n given) p (take (n - 1) now)
+lifting-all n {given} {now} {i} {p} e t =
+    let k : n - 1 ≡ i = omega arith in
+    rw (k, ← e) (t .out)
 
-counted-missed : {xs : List ℕ} {p r : ℕ} {c : Counts} → Counted xs p c → (r ≤ c .below) ⊎ (c .upto < r) → HasRank leb r xs p → ⊥
-counted-missed h (inl low) t = let a = h .below in let b = t .fewer in omega arith
-counted-missed h (inr high) t = let a = h .upto in let b = t .enough in omega arith
+-- what has rank s among the m keys at the front has rank r among the n that were lent
+pub record Sought (given : List ℕ) (n r : ℕ) (now : List ℕ) (m s : ℕ) : Type 0 where
+  pub low : 1 ≤ s
+  pub high : s ≤ m
+  pub room : m ≤ length now
+  pub long : length now ≡ length given
+  pub back : (v : ℕ) → HasRank leb s (take m now) v → HasRank leb r (take n given) v
 
--- the key at place i has too many keys below it, or too few at most it
-pub ahead-more : {xs : List ℕ} {r i : ℕ} {c : Counts}
-    → Counted xs (getD xs i 0) c
-    → (r ≤ c .below) ⊎ (c .upto < r)
-    → Ahead xs r i
-    → Ahead xs r (i + 1)
-ahead-more {xs} {r} {i} n missed (k, ge, lt, h) = go (leb k i) refl
-  where
-    go : (t : Bool) → leb k i ≡ t → Ahead xs r (i + 1)
-    go true e =
-        let same : k ≡ i = omega (arith, leb-true k i e) in
-        absurd (counted-missed n missed (subst (λ (m : ℕ). HasRank leb r xs (getD xs m 0)) same h))
-    go false e = (k, omega (arith, leb-false k i e), lt, h)
+pub sought-first : {given : List ℕ} {n r : ℕ} → Pickable given n r → Sought given n r given n r
+sought-first h = record { low = h .least; high = h .most; room = omega (arith, h .room); long = refl; back = λ v k. k }
+
+module _ {given now : List ℕ} {n r m s p : ℕ} (t : Sought given n r now m s) where
+  pub sought-here : {ys : List ℕ} → LeastOut leb (take m now) p ys → s ≡ 1 → HasRank leb r (take n given) p
+  sought-here out e = t .back p (rw e (out-first keys-order (λ y k. tt) out))
+
+  pub sought-next : (after : List ℕ) → length after ≡ length now → LeastOut leb (take m now) p (take (m - 1) after) → 1 < s
+      → Sought given n r after (m - 1) (s - 1)
+  sought-next after same out more =
+      let a = t .high in
+      let b = t .room in
+      let l = t .long in
+      let next : s - 1 + 1 ≡ s = omega arith in
+      record {
+        low = omega arith;
+        high = omega arith;
+        room = omega arith;
+        long = omega arith;
+        back = λ v k. t .back v (rw next at (out-next keys-order (λ y m. tt) out tt k));
+      }

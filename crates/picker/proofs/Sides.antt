@@ -1,102 +1,73 @@
 -- How a pick goes on: with the keys below the pivot, with the pivot, or with the keys above it. The count of keys falls.
 -- Assumes nothing.
-use mathlib.Core.Path.{_≡_, ap, _∙_, subst, subst₂, subst⁻¹}
-use mathlib.Core.Bool.{Bool}
-use mathlib.Core.List.{List, _++_}
+use mathlib.Core.Path.{_≡_, ap, _∙_}
+use mathlib.Core.List.{List}
 use Prim.Native.Nat.{ℕ, _-_, _≤_, _<_}
 use native.Mathlib.Omega.{arith}
 use lib.Dec.{leb}
-use lib.ListN.{length, take, drop, length-append, length-drop}
-use lib.Seq.{length-take-le, take-append-le}
-use Rattle.rules.specs.Lists.{those}
-use Rattle.ranks.specs.Counts.{count-not, count-le-length}
-use Rattle.ranks.specs.Ranks.{HasRank, under, upto, over, rank-among-below, rank-among-above}
+use lib.ListN.{length, take, drop}
+use lib.Seq.{length-take-le}
+use Rattle.ranks.specs.Counts.{count, count-not}
+use Rattle.ranks.specs.Ranks.{HasRank, upto, rank-among-below, rank-among-above}
 use Rattle.ranks.specs.Numbers.{natural-order}
 use Rattle.ranks.specs.Middles.{Splits, middle-of-middles-splits}
-use Rattle.picker.proofs.Passes.{counted-rank}
 use Rattle.picker.specs.declared.Ranked.{Ranked}
 use Rattle.picker.specs.declared.scan.Counts.{Counts}
-use Rattle.picker.specs.Picking.{Pickable, Picks, Pivots, Counted, Kept}
+use Rattle.picker.specs.Picking.{Pickable, Picks, Pivots, Parted}
 
--- what is known once the pivot p is found: w is what was lent, and now what the pivot finder left of it
-pub record Split (w : List ℕ) (n r p : ℕ) (now : List ℕ) : Type 0 where
-  pub long : length now ≡ length w
+-- what is known once the keys are parted at the pivot p: w is what was lent, now what the pivot finder left of it, and after what the parting left
+pub record Split (w : List ℕ) (n r p : ℕ) (now : List ℕ) (c : Counts) (after : List ℕ) : Type 0 where
   pub pre : Pickable w n r
-  pub many : 10 < n
+  pub many : 20 < n
   pub pivot : Pivots w n p now
+  pub parted : Parted now n p c after
+  pub now-long : length now ≡ length w
+  pub after-long : length after ≡ length now
 
-module _ {w : List ℕ} {n r p : ℕ} {now : List ℕ} (s : Split w n r p now) where
-  pub split-room : n ≤ length now
-  split-room = let a = s .pre .room in let b = s .long in omega arith
-
-  pub keys-long : length (take n now) ≡ n
-  keys-long = length-take-le n now split-room
-
-  five : 5 ≤ length (take n w)
-  five = omega (arith, s .many, keys-long, ap length (s .pivot .same-keys))
+module _ {w : List ℕ} {n r p : ℕ} {now : List ℕ} {c : Counts} {after : List ℕ} (s : Split w n r p now c after) where
+  keys-long : length (take n now) ≡ n
+  keys-long = length-take-le n now (omega (arith, s .pre .room, s .now-long))
 
   splits : Splits leb (take n now) p
   splits =
-      subst⁻¹ (λ (l : List ℕ). Splits leb l p) (s .pivot .same-keys)
-      (subst⁻¹ (Splits leb (take n w)) (s .pivot .middle) (middle-of-middles-splits natural-order 0 (take n w) five))
+      rw (s .pivot .same-keys, s .pivot .middle)
+      (middle-of-middles-splits natural-order 0 (take n w) (omega (arith, s .many, keys-long, ap length (s .pivot .same-keys))))
 
-  -- the kept keys at the front of what is lent on
-  module _ {f : ℕ → Bool} {k : ℕ} {ys : List ℕ} (same : length ys ≡ length (take n now)) (kept : Kept f (take n now) k ys) where
-    kept-few : k ≤ n
-    kept-few = omega (arith, kept .number, count-le-length f (take n now), keys-long)
+  -- what has the rank among the keys as the pivot finder left them has it among those that were lent
+  said : {v : Ranked} → HasRank leb r (take n now) (v .key) → Picks (take n w) r v
+  said h = record { rank = rw (s .pivot .same-keys) at h }
 
-    kept-front : take k (ys ++ drop n now) ≡ those f (take n now)
-    kept-front = take-append-le k ys (drop n now) (omega (arith, keys-long, kept-few)) ∙ kept .front
+  -- the keys at most p are all but those above it
+  upto-is : n - c .above ≡ count (upto leb p) (take n now)
+  upto-is = omega (arith, s .parted .above .number, count-not (upto leb p) (take n now), keys-long)
 
-    pub kept-room : length (ys ++ drop n now) ≡ length now
-    kept-room = omega (arith, length-append ys (drop n now), length-drop n now, keys-long, split-room)
-
-  -- the pivot itself
-  pub here : {c : Counts} → Counted (take n now) p c → c .below < r → r ≤ c .upto → Picks (take n w) r (record { key = p })
-  here c low high = record { rank = subst (λ (l : List ℕ). HasRank leb r l p) (s .pivot .same-keys) (counted-rank c low high) }
+  pub here : c .below < r → r ≤ n - c .above → Picks (take n w) r (record { key = p })
+  here low high = said (record { fewer = omega (arith, s .parted .below .number); enough = omega (arith, upto-is) })
 
   -- the keys below it
-  module _ {k : ℕ} {ys : List ℕ} (same : length ys ≡ length (take n now)) (kept : Kept (under leb p) (take n now) k ys) where
-    pub fewer-below : k < n
-    fewer-below = let a = splits .some-from in omega (arith, kept .number, keys-long)
+  pub fewer-below : c .below < n
+  fewer-below = let a = splits .some-from in omega (arith, s .parted .below .number, keys-long)
 
-    pub below-pickable : {c : Counts} → Counted (take n now) p c → r ≤ c .below → Pickable (ys ++ drop n now) k r
-    below-pickable c h =
-        record {
-          least = s .pre .least;
-          most = omega (arith, c .below, kept .number);
-          room = omega (arith, s .pre .room, s .long, fewer-below, kept-room same kept);
-        }
+  pub below-pickable : r ≤ c .below → Pickable after (c .below) r
+  below-pickable h =
+      record { least = s .pre .least; most = h; room = omega (arith, s .pre .room, s .now-long, s .after-long, fewer-below) }
 
-    pub below-picks : {said : Ranked} → Picks (take k (ys ++ drop n now)) r said → Picks (take n w) r said
-    below-picks {said} h =
-        record {
-          rank =
-              subst (λ (l : List ℕ). HasRank leb r l (said .key)) (s .pivot .same-keys)
-              (rank-among-below natural-order p (subst (λ (l : List ℕ). HasRank leb r l (said .key)) (kept-front same kept) (h .rank)));
-        }
+  pub below-picks : {v : Ranked} → Picks (take (c .below) after) r v → Picks (take n w) r v
+  below-picks h = said (rank-among-below natural-order p (rw (s .parted .below .front) at (h .rank)))
 
   -- the keys above it
-  module _ {k : ℕ} {ys : List ℕ} (same : length ys ≡ length (take n now)) (kept : Kept (over leb p) (take n now) k ys) where
-    pub fewer-above : k < n
-    fewer-above = let a = splits .some-upto in omega (arith, kept .number, count-not (upto leb p) (take n now), keys-long)
+  pub fewer-above : c .above < n
+  fewer-above = let a = splits .some-upto in omega (arith, upto-is)
 
-    pub above-pickable : {c : Counts} → Counted (take n now) p c → c .upto < r → Pickable (ys ++ drop n now) k (r - c .upto)
-    above-pickable c h =
+  module _ (more : n - c .above < r) (left : List ℕ) (long : length left ≡ length after) (moved : take (c .above) left ≡ take (c .above) (drop n after)) where
+    pub above-pickable : Pickable left (c .above) (r - (n - c .above))
+    above-pickable =
         record {
           least = omega arith;
-          most = omega (arith, c .upto, kept .number, count-not (upto leb p) (take n now), keys-long, s .pre .most);
-          room = omega (arith, s .pre .room, s .long, fewer-above, kept-room same kept);
+          most = omega (arith, s .pre .most, fewer-above);
+          room = omega (arith, s .pre .room, s .now-long, s .after-long, fewer-above);
         }
 
-    pub above-picks : {c : Counts} {said : Ranked} → Counted (take n now) p c → c .upto < r
-        → Picks (take k (ys ++ drop n now)) (r - c .upto) said
-        → Picks (take n w) r said
-    above-picks {c} {said} counts h g =
-        record {
-          rank =
-              subst (λ (l : List ℕ). HasRank leb r l (said .key)) (s .pivot .same-keys)
-              (rank-among-above natural-order p
-              (omega (arith, counts .upto))
-              (subst₂ (λ (m : ℕ) (l : List ℕ). HasRank leb (r - m) l (said .key)) (counts .upto) (kept-front same kept) (g .rank)));
-        }
+    pub above-picks : {v : Ranked} → Picks (take (c .above) left) (r - (n - c .above)) v → Picks (take n w) r v
+    above-picks h =
+        said (rank-among-above natural-order p (omega (arith, upto-is)) (rw (moved ∙ s .parted .above .front, upto-is) at (h .rank)))

@@ -1,14 +1,12 @@
 -- What the picker's parts promise each other, over keys in scratch. A list lies at the front of the lent part, with free room behind it.
 -- Assumes nothing.
 use mathlib.Core.Path.{_≡_}
-use mathlib.Core.Bool.{Bool, true, false}
 use mathlib.Core.List.{List}
 use Prim.Native.Nat.{ℕ, _*_, _/_, _≤_}
 use lib.Dec.{leb}
 use lib.ListN.{length, take, drop}
-use Rattle.rules.specs.Lists.{those}
-use Rattle.ranks.specs.Counts.{count}
-use Rattle.ranks.specs.Ranks.{HasRank, under, upto, over}
+use Rattle.ranks.specs.Kept.{Kept}
+use Rattle.ranks.specs.Ranks.{HasRank, under, over}
 use Rattle.ranks.specs.Middles.{middles, middle-of-middles}
 use Rattle.picker.specs.declared.Ranked.{Ranked}
 use Rattle.picker.specs.declared.scan.Counts.{Counts}
@@ -39,17 +37,7 @@ pub record Middled (w : List ℕ) (n g : ℕ) (after : List ℕ) : Type 0 where
   pub same-keys : take n after ≡ take n w
   pub middles : take g (drop n after) ≡ middles leb 0 (take n w)
 
--- how many keys are below p, and how many are at most p
-pub record Counted (keys : List ℕ) (p : ℕ) (c : Counts) : Type 0 where
-  pub below : c .below ≡ count (under leb p) keys
-  pub upto : c .upto ≡ count (upto leb p) keys
-
--- the test for the keys above p, or for those below it
-abbrev pub on-side : Bool → ℕ → ℕ → Bool
-on-side true p = over leb p
-on-side false p = under leb p
-
--- the k keys that pass the test lie at the front, in their order
-pub record Kept (test : ℕ → Bool) (keys : List ℕ) (k : ℕ) (after : List ℕ) : Type 0 where
-  pub number : k ≡ count test keys
-  pub front : take k after ≡ those test keys
+-- of the n keys those below p lie at the front, and those above it behind the n
+pub record Parted (w : List ℕ) (n p : ℕ) (c : Counts) (after : List ℕ) : Type 0 where
+  pub below : Kept (under leb p) (take n w) (c .below) after
+  pub above : Kept (over leb p) (take n w) (c .above) (drop n after)

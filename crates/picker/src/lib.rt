@@ -20,29 +20,29 @@ pub struct Ranked {
     pub key: u32,
 }
 
-// The key of rank r among the n keys at the front of w. Ten keys or fewer are counted through; more are split at the pivot, and the pick goes
-// on with the side that has the rank. Of what is lent only the length stays.
+// The key of rank r among the n keys at the front of w. Of twenty keys or fewer the least is taken out until it has the rank; more are parted at the
+// pivot, and the pick goes on with the side that has the rank. Of what is lent only the length stays.
 pub fn pick_key(w: &mut [u32], n: usize, r: usize) -> Ranked
     requires { ⌜ Pickable (now w) n r ⌝ }
     ensures { λ said. ⌜ Picks (take n (now (w .entry))) r said ⌝ }
 {
-    if n <= 10 {
-        let key = scan::short(&w[..n], r);
+    if n <= 20 {
+        let key = scan::short(w, n, r);
         return Ranked { key };
     }
     let p = pivot(w, n);
-    let c = scan::count(&w[..n], p);
+    let c = scan::part(w, n, p);
     let below = c.below;
-    let upto = c.upto;
+    let above = c.above;
+    let upto = n - above;
     if r <= below {
-        let k = scan::keep(&mut w[..n], p, false);
-        return pick_key(w, k, r);
+        return pick_key(w, below, r);
     }
     if r <= upto {
         return Ranked { key: p };
     }
-    let k = scan::keep(&mut w[..n], p, true);
-    pick_key(w, k, r - upto)
+    scan::front(w, n, above);
+    pick_key(w, above, r - upto)
 }
 
 // The middle of the middles of the groups of five among the n keys at the front of w, which stay. It is found by picking, in the room behind them.

@@ -1,4 +1,6 @@
 pub mod Counts
+pub mod Kept
 pub mod Ranks
+pub mod Least
 pub mod Numbers
 pub mod Middles

@@ -19,11 +19,11 @@ pub record Order {A : Type 0} (le : A → A → Bool) : Type 0 where
   pub total : (x y : A) → T (not (le x y)) → T (le y x)
   pub trans : (x y z : A) → T (le x y) → T (le y z) → T (le x z)
 
-not-not : (b : Bool) → T (not (not b)) → T b
+pub not-not : (b : Bool) → T (not (not b)) → T b
 not-not true t = tt
 not-not false t = t
 
-twice : (b : Bool) → T b → T (not (not b))
+pub twice : (b : Bool) → T b → T (not (not b))
 twice true t = tt
 twice false t = t
 
@@ -394,6 +394,10 @@ module _ {A B : Type 0} (g : A → B) (le : B → B → Bool) where
 pub record OrderOn {A : Type 0} (P : A → Type 0) (le : A → A → Bool) : Type 0 where
   pub total : (x y : A) → P x → P y → T (not (le x y)) → T (le y x)
   pub trans : (x y z : A) → P x → P y → P z → T (le x y) → T (le y z) → T (le x z)
+
+-- an order of all items
+pub order-on : {A : Type 0} {le : A → A → Bool} → Order le → OrderOn (λ (x : A). Unit {0}) le
+order-on o = record { total = λ x y a b. o .total x y; trans = λ x y z a b c. o .trans x y z }
 
 -- an item with what holds of it
 pub record Held {A : Type 0} (P : A → Type 0) : Type 0 where

@@ -5,13 +5,12 @@ use borrow.Fn.Kinds.{In}
 use borrow.Fn.PlainCycle.{Measures, is, falls, and}
 use borrow.Author.Needs.{needs}
 use native.Mathlib.Omega.{arith}
-use mathlib.Core.Path.{refl, sym, _∙_}
+use mathlib.Core.Path.{_∙_}
 use lib.ListN.{length}
-use lib.Seq.{length-take-le}
 use native.Mathlib.Nat.{le-refl}
 use borrow.Rule.Slice.PartMut.{mid-len, same-len-mid, take-put}
 use Rattle.picker.proofs.Fives.{picked-middle}
-use Rattle.picker.proofs.Sides.{Split, split-room, keys-long, kept-room, here, fewer-below, below-pickable, below-picks, fewer-above, above-pickable, above-picks}
+use Rattle.picker.proofs.Sides.{Split, here, fewer-below, below-pickable, below-picks, fewer-above, above-pickable, above-picks}
 use Rattle.picker.proofs.pick_key.Reads as pick-key
 use Rattle.picker.proofs.pick_key.Kinds as pick-key-kinds
 use Rattle.picker.proofs.+pick_key+pivot.Lts-pick_key as pick-key-lts
@@ -19,8 +18,8 @@ use Rattle.picker.proofs.pivot.Reads as pivot
 use Rattle.picker.proofs.pivot.Kinds as pivot-kinds
 use Rattle.picker.proofs.+pick_key+pivot.Lts-pivot as pivot-lts
 use Rattle.picker.proofs.five.middles.Reads as middles-reads
-use Rattle.picker.proofs.scan.count.Reads as count-reads
-use Rattle.picker.proofs.scan.keep.Reads as keep-reads
+use Rattle.picker.proofs.scan.front.Reads as front-reads
+use Rattle.picker.proofs.scan.part.Reads as part-reads
 use Rattle.picker.proofs.scan.short.Reads as short-reads
 use Rattle.picker.proofs.+pick_key+pivot.{statement}
 use Rattle.picker.proofs.+pick_key+pivot.Tie.{close}
@@ -50,12 +49,12 @@ pick-key-claims t = (
   short-reads.Learnt,
   pivot-below t,
   pivot.Post,
-  count-reads.Asked,
-  count-reads.Learnt,
-  keep-reads.Asked,
-  keep-reads.Learnt,
+  part-reads.Asked,
+  part-reads.Learnt,
   pick-key-below t,
   pick-key.Post,
+  front-reads.Asked,
+  front-reads.Learnt,
 )
 
 abbrev pivot-claims : ℕ → pivot-lts.Claims
@@ -63,86 +62,92 @@ pivot-claims t = (middles-reads.Asked, middles-reads.Learnt, pick-key-below t, p
 
 -- ---- the picker
 
--- what is known of a pick once the pivot is found
-abbrev start-of : (t : ℕ) → pick-key-lts.After-pivot (pick-key-claims t) (pick-key-at t) pick-key.Post
-    → pick-key-lts.Start (pick-key-claims t) (pick-key-at t) pick-key.Post
-start-of t c = c .before .before .before .before
+-- what is known of a pick once the keys are parted
+abbrev After-part : ℕ → Type 0
+After-part t = pick-key-lts.After-part (pick-key-claims t) (pick-key-at t) pick-key.Post
 
-split : (t : ℕ) (c : pick-key-lts.After-pivot (pick-key-claims t) (pick-key-at t) pick-key.Post)
-    → Split (start-of t c .args .w .now) (start-of t c .args .n) (start-of t c .args .r) (c .pivot .result) (c .pivot .last .0)
+abbrev pivot-of : (t : ℕ) → After-part t → pick-key-lts.After-pivot (pick-key-claims t) (pick-key-at t) pick-key.Post
+pivot-of t c = c .before .before .before .before
+
+abbrev start-of : (t : ℕ) → After-part t → pick-key-lts.Start (pick-key-claims t) (pick-key-at t) pick-key.Post
+start-of t c = pivot-of t c .before .before .before .before
+
+split : (t : ℕ) (c : After-part t)
+    → Split
+    (start-of t c .args .w .now)
+    (start-of t c .args .n)
+    (start-of t c .args .r)
+    (pivot-of t c .pivot .result)
+    (pivot-of t c .pivot .last .0)
+    (c .part .result)
+    (c .part .last .0)
 split t c =
-    record { long = c .pivot .kept .0; pre = start-of t c .pre .1; many = c .before .before .if1 .left; pivot = c .pivot .ensures }
-
-slice-aggregate-short : (t : ℕ) → pick-key-lts.Need-slice-aggregate-short (pick-key-claims t) (pick-key-at t) pick-key.Post
-slice-aggregate-short t c = let start = c .before .before .before in sym (length-take-le (start .args .n) (start .args .w .now) (omega arith))
-
-short-requires : (t : ℕ) → pick-key-lts.Need-short-requires (pick-key-claims t) (pick-key-at t) pick-key.Post
-short-requires t c κs =
-    let start = c .before .before .before in
-    omega (arith, length-take-le (start .args .n) (start .args .w .now) (omega (arith, start .pre .1)))
+    record {
+      pre = start-of t c .pre .1;
+      many = pivot-of t c .before .before .if1 .left;
+      pivot = pivot-of t c .pivot .ensures;
+      parted = c .part .ensures;
+      now-long = pivot-of t c .pivot .kept .0;
+      after-long = c .part .kept .0;
+    }
 
 -- the keys below the pivot
 pick-key-requires : (t : ℕ) → pick-key-lts.Need-pick-key-requires (pick-key-claims t) (pick-key-at t) pick-key.Post
 pick-key-requires t c κs =
-    let kept = c .before .before .before in
-    let few = kept .before .before in
-    let counted = few .before in
-    let after = counted .before .before .before .before in
-    let fewer = fewer-below (split t after) (kept .keep .kept .0) (kept .keep .ensures) in (
-      omega (arith, start-of t after .pre .0),
-      below-pickable (split t after) (kept .keep .kept .0) (kept .keep .ensures) (counted .count .ensures) (omega (arith, few .if2 .taken)),
-    )
+    let parted = c .before .before .before .before in
+    (omega (arith, fewer-below (split t parted), start-of t parted .pre .0), below-pickable (split t parted) (omega (arith, c .before .if2 .taken)))
 
 same-length-below : (t : ℕ) → pick-key-lts.Need-same-length-2 (pick-key-claims t) (pick-key-at t) pick-key.Post
 same-length-below t c =
-    let kept = c .before .before .before .before .before .before in
-    let after = kept .before .before .before .before .before .before .before in
-    c .before .before .pick-key .kept .0
-    ∙ kept-room (split t after) (kept .keep .kept .0) (kept .keep .ensures)
-    ∙ after .pivot .kept .0
+    let picked = c .before .before in
+    let parted = picked .before .before .before .before .before in
+    picked .pick-key .kept .0 ∙ parted .part .kept .0 ∙ pivot-of t parted .pivot .kept .0
 
 returns-below : (t : ℕ) → pick-key-lts.Need-returns-2 (pick-key-claims t) (pick-key-at t) pick-key.Post
-returns-below t c =
-    let kept = c .before .before .before .before .before .before in
-    below-picks (split t (kept .before .before .before .before .before .before .before)) (kept .keep .kept .0) (kept .keep .ensures) (c .before .before .pick-key .ensures)
+returns-below t c = let picked = c .before .before in below-picks (split t (picked .before .before .before .before .before)) (picked .pick-key .ensures)
 
 -- the pivot itself
+same-length-here : (t : ℕ) → pick-key-lts.Need-same-length-3 (pick-key-claims t) (pick-key-at t) pick-key.Post
+same-length-here t c = let parted = c .before .before .before .before in parted .part .kept .0 ∙ pivot-of t parted .pivot .kept .0
+
 returns-here : (t : ℕ) → pick-key-lts.Need-returns-3 (pick-key-claims t) (pick-key-at t) pick-key.Post
-returns-here t c =
-    here (split t (c .before .before .before .before .before .before)) (c .before .before .count .ensures) (omega (arith, c .before .if2 .left)) (omega (arith, c .if3 .taken))
+returns-here t c = here (split t (c .before .before .before .before)) (omega (arith, c .before .if2 .left)) (omega (arith, c .if3 .taken))
 
 -- the keys above the pivot
+front-requires : (t : ℕ) → pick-key-lts.Need-front-requires (pick-key-claims t) (pick-key-at t) pick-key.Post
+front-requires t c κs =
+    let parted = c .before .before .before .before .before in
+    let s = split t parted in
+    omega (arith, fewer-above s, s .pre .room, s .now-long, s .after-long)
+
 pick-key-requires-2 : (t : ℕ) → pick-key-lts.Need-pick-key-requires-2 (pick-key-claims t) (pick-key-at t) pick-key.Post
 pick-key-requires-2 t c κs =
-    let kept = c .before .before .before in
-    let many = kept .before .before in
-    let counted = many .before .before in
-    let after = counted .before .before .before .before in
-    let fewer = fewer-above (split t after) (kept .keep2 .kept .0) (kept .keep2 .ensures) in (
-      omega (arith, start-of t after .pre .0),
-      above-pickable (split t after) (kept .keep2 .kept .0) (kept .keep2 .ensures) (counted .count .ensures) (omega (arith, many .if3 .left)),
+    let moved = c .before .before .before in
+    let many = moved .before .before in
+    let parted = many .before .before .before .before in (
+      omega (arith, fewer-above (split t parted), start-of t parted .pre .0),
+      above-pickable (split t parted) (omega (arith, many .if3 .left)) (moved .front .last .0) (moved .front .kept .0) (moved .front .ensures),
     )
 
 same-length-above : (t : ℕ) → pick-key-lts.Need-same-length-4 (pick-key-claims t) (pick-key-at t) pick-key.Post
 same-length-above t c =
-    let kept = c .before .before .before .before .before .before in
-    let after = kept .before .before .before .before .before .before .before .before in
-    c .before .before .pick-key2 .kept .0
-    ∙ kept-room (split t after) (kept .keep2 .kept .0) (kept .keep2 .ensures)
-    ∙ after .pivot .kept .0
+    let picked = c .before .before in
+    let moved = picked .before .before .before .before in
+    let parted = moved .before .before .before .before .before .before in
+    picked .pick-key2 .kept .0 ∙ moved .front .kept .0 ∙ parted .part .kept .0 ∙ pivot-of t parted .pivot .kept .0
 
 returns-above : (t : ℕ) → pick-key-lts.Need-returns-4 (pick-key-claims t) (pick-key-at t) pick-key.Post
 returns-above t c =
-    let kept = c .before .before .before .before .before .before in
-    let many = kept .before .before in
-    let counted = many .before .before in
+    let picked = c .before .before in
+    let moved = picked .before .before .before .before in
+    let many = moved .before .before in
     above-picks
-    (split t (counted .before .before .before .before))
-    (kept .keep2 .kept .0)
-    (kept .keep2 .ensures)
-    (counted .count .ensures)
+    (split t (many .before .before .before .before))
     (omega (arith, many .if3 .left))
-    (c .before .before .pick-key2 .ensures)
+    (moved .front .last .0)
+    (moved .front .kept .0)
+    (moved .front .ensures)
+    (picked .pick-key2 .ensures)
 
 -- ---- the pivot finder
 
@@ -187,26 +192,18 @@ pub +pick-key+pivot-spec : {M : Type 1} → statement M
     (pick-key-claims t)
     (pick-key-at t)
     pick-key.Post
-    (λ c. omega arith)
-    (slice-aggregate-short t)
-    (short-requires t)
-    (λ c. refl)
-    (λ c. record { rank = c .short .ensures })
+    (λ c κs. c .before .before .before .pre .1)
+    (λ c. c .before .before .short .kept .0)
+    (λ c. record { rank = c .before .before .short .ensures })
     (λ c κs. (omega arith, record { five = omega arith; room = omega arith }))
-    (λ c. split-room (split t (c .before .before)))
-    (λ c. sym (keys-long (split t (c .before .before .before))))
-    (λ c κs. tt)
-    (λ c. split-room (split t (c .before .before .before .before .before)))
-    (λ c. sym (keys-long (split t (c .before .before .before .before .before .before))))
-    (λ c κs. tt)
+    (λ c κs. omega (arith, c .before .before .before .pivot .kept .0, c .before .before .before .before .before .before .before .pre .1 .room))
+    (λ c. omega (arith, fewer-above (split t (c .before .before))))
     (pick-key-requires t)
     (same-length-below t)
     (returns-below t)
-    (λ c. c .before .before .before .before .before .before .pivot .kept .0)
+    (same-length-here t)
     (returns-here t)
-    (λ c. split-room (split t (c .before .before .before .before .before .before)))
-    (λ c. sym (keys-long (split t (c .before .before .before .before .before .before .before))))
-    (λ c κs. tt)
+    (front-requires t)
     (λ c. omega (arith, c .before .before .before .before .before .if3 .left))
     (pick-key-requires-2 t)
     (same-length-above t)

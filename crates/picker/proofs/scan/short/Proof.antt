@@ -1,47 +1,37 @@
--- `picker::scan::short` meets its contract: a key that has the rank lies at the present place or further on.
+-- `picker::scan::short` meets its contract: what has the rank s among the m keys that are left has the rank r among all.
 -- Assumes nothing.
-use Prim.Native.Nat.{_-_}
+use mathlib.Core.Path.{_∙_}
 use native.Mathlib.Omega.{arith}
-use borrow.Author.Needs.{needs}
-use lib.ListN.{length}
-use mathlib.Core.Logic.{⊎-elim, inl, inr}
-use Rattle.picker.proofs.Passes.{Ahead, ahead-first, ahead-more, counted-rank}
+use Rattle.picker.proofs.Passes.{Sought, sought-first, sought-here, sought-next}
 use Rattle.picker.proofs.scan.short.Statement.{statement}
 use Rattle.picker.proofs.scan.short.Tie as tie
 
 abbrev Inv-loop : tie.InvT-loop
-Inv-loop xs r i₀ i = Ahead xs r i
+Inv-loop w₀ n r m₀ s₀ w m s = Sought w₀ n r w m s
 
 abbrev μ-loop : tie.MeasureT-loop
-μ-loop xs r i₀ i = length xs - i
-
-loop-holds : tie.Need-loop-holds Inv-loop μ-loop
-loop-holds c = let start = c .before in ahead-first (start .args .xs .now) (start .args .r) (start .pre .0) (start .pre .1)
-
-mul-x : tie.Need-mul-x Inv-loop μ-loop
-mul-x c = omega arith
-
-shared-slice-read-x : tie.Need-shared-slice-read-x Inv-loop μ-loop
-shared-slice-read-x c = omega arith
-
-count-requires : tie.Need-count-requires Inv-loop μ-loop
-count-requires c κs = search needs
+μ-loop w₀ n r m₀ s₀ w m s = m
 
 returns : tie.Need-returns Inv-loop μ-loop
-returns c = counted-rank (c .before .before .count .ensures) (c .before .if1 .taken) (c .if2 .taken)
-
-add-i : tie.Need-add-i Inv-loop μ-loop
-add-i c = omega arith
-
-loop-less : tie.Need-loop-less Inv-loop μ-loop
-loop-less c = omega arith
+returns c = sought-here (c .before .before .before .before .before .loop .inv) (c .before .before .before .least .ensures) (c .if1 .taken)
 
 loop-again : tie.Need-loop-again Inv-loop μ-loop
 loop-again c =
-    ahead-more
-    (c .before .count .ensures)
-    (⊎-elim (λ w. inr (w .1 .left)) (λ w. inl (w .left)) (c .if1 .came))
-    (c .before .before .before .loop .inv)
+    let t = c .before .before .before .before .before .loop .inv in
+    let p = c .before .before .before .least in
+    sought-next t (p .last .0) (p .kept .0) (p .ensures) (omega (arith, t .low, c .if1 .left))
 
 pub short-spec : {M : Type 1} → statement M
-short-spec = tie.close (tie.spec Inv-loop μ-loop loop-holds mul-x shared-slice-read-x count-requires returns add-i loop-less loop-again)
+short-spec =
+    tie.close
+    (tie.spec
+    Inv-loop
+    μ-loop
+    (λ c. sought-first (c .before .pre))
+    (λ c κs. let t = c .before .loop .inv in (omega (arith, t .low, t .high), t .room))
+    (λ c. c .before .before .before .least .kept .0 ∙ c .before .before .before .before .before .loop .inv .long)
+    returns
+    (λ c. let t = c .before .before .before .before .before .loop .inv in omega (arith, t .low, t .high))
+    (λ c. omega (arith, c .before .before .before .before .before .loop .inv .low))
+    (λ c. let t = c .before .before .before .before .before .loop .inv in omega (arith, t .low, t .high))
+    loop-again)
