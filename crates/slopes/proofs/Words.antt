@@ -1,6 +1,6 @@
 -- The words of slopes: the bounds from which the sums and products of the code fit, and a test added as 0 or 1.
 -- Assumes nothing.
-use mathlib.Core.Path.{_≡_, refl}
+use mathlib.Core.Path.{_≡_, refl, sym, subst₂}
 use mathlib.Core.Bool.{Bool, true, false}
 use mathlib.Core.List.{[], _∷_}
 use Prim.Native.Nat.{ℕ, _≤_}
@@ -30,9 +30,13 @@ pub cross-leaves : {j k : Slope} → Near j → Near k → Leaves (read (j .rise
 cross-leaves hj hk = held (hj .rise-near) ∷ᶜ held (hk .run-near) ∷ᶜ []ʷ
 
 -- a test cast to a number
-pub byte-is : (b : Bool) → boolByte b ≡ bit b
+byte-is : (b : Bool) → boolByte b ≡ bit b
 byte-is true = refl
 byte-is false = refl
+
+-- two tests cast so
+pub as-bytes : (F : ℕ → ℕ → Type 0) (s t : Bool) → F (bit s) (bit t) → F (boolByte s) (boolByte t)
+as-bytes F s t = subst₂ F (sym (byte-is s)) (sym (byte-is t))
 
 pub byte-most : (b : Bool) → boolByte b ≤ 1
 byte-most true = omega arith

@@ -3,11 +3,13 @@
 use mathlib.Core.Path.{_≡_}
 use mathlib.Core.Bool.{Bool}
 use mathlib.Core.List.{List, List·Memᴰ}
-use Prim.Native.Nat.{ℕ, _+_, _*_, _≤_, _<_}
+use Prim.Native.Nat.{ℕ, _+_, _-_, _*_, _≤_, _<_}
 use lib.ListN.{length, getD, drop}
 use Rattle.rules.specs.Lists.{those}
 use Rattle.rules.specs.Round.{Slope, slope-le}
+use Rattle.ranks.specs.Counts.{count}
 use Rattle.ranks.specs.Ranks.{HasRank, under, over}
+use Rattle.ranks.specs.Least.{LeastOut}
 use Rattle.slopes.specs.Fractions.{fraction, fractions, put, Part, Sound, Pickable, Near}
 use Rattle.slopes.specs.declared.scan.Counts as code
 
@@ -31,6 +33,11 @@ pub record Roomy (n : ℕ) (w : List ℕ) : Type 0 where
   pub sound : Sound n w
   pub room : 4 * n ≤ length w
 
+-- how many of the first n lie below p, and how many above
+pub record Counted (n : ℕ) (w : List ℕ) (p : Slope) (c : code.Counts) : Type 0 where
+  pub below-is : c .below ≡ count (under slope-le p) (fractions n w)
+  pub above-is : c .above ≡ count (over slope-le p) (fractions n w)
+
 -- of the first n those that pass the test, k of them, at the front
 pub record Kept (test : Slope → Bool) (n : ℕ) (w v : List ℕ) (k : ℕ) : Type 0 where
   pub front : fractions k v ≡ those test (fractions n w)
@@ -38,8 +45,14 @@ pub record Kept (test : Slope → Bool) (n : ℕ) (w v : List ℕ) (k : ℕ) : T
 
 -- those below p at the front, and those above it behind the first n
 pub record Parted (n : ℕ) (w v : List ℕ) (p : Slope) (c : code.Counts) : Type 0 where
+  pub counted : Counted n w p c
   pub below-kept : Kept (under slope-le p) n w v (c .below)
   pub above-kept : Kept (over slope-le p) n w (drop (2 * n) v) (c .above)
+
+-- p is the least of the first n, and the others stand at the front
+pub record Lifted (n : ℕ) (w : List ℕ) (p : Slope) (v : List ℕ) : Type 0 where
+  pub sound : Sound (n - 1) v
+  pub out : LeastOut slope-le (fractions n w) p (fractions (n - 1) v)
 
 -- an answer is one of the slopes and has rank r among them
 pub record Answers (r : ℕ) (ks : List Slope) (k : Slope) : Type 0 where

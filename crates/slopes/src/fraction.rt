@@ -1,12 +1,13 @@
 // A slope as it lies in scratch, and the one comparison of slopes.
 use super::Slope;
+ghost use mathlib.Core.Bool.{cond};
 ghost use mathlib.Core.Path.{_≡_};
 ghost use Prim.Native.Nat.{_+_, _*_, _<_};
 ghost use lib.IntN.{_*ℤ_};
 ghost use lib.ListN.{length, getD};
 ghost use Rattle.rules.specs.Round.{slope-le};
 ghost use Rattle.ranks.specs.Ranks.{under};
-ghost use Rattle.slopes.specs.Fractions.{as-slope, Part, Near};
+ghost use Rattle.slopes.specs.Fractions.{as-slope, put, Part, Near};
 ghost use Rattle.slopes.specs.Passes.{Shows, Stands, copied};
 
 // The slope of two words.
@@ -28,15 +29,45 @@ pub fn slope_at(w: &[u32], k: usize) -> Slope
     slope_of(w[2 * k], w[2 * k + 1])
 }
 
+// The two words of a slope.
+pub struct Fraction {
+    pub rise: u32,
+    pub run: u32,
+}
+
+// The words of slope k.
+pub fn fraction_at(w: &[u32], k: usize) -> Fraction
+    requires { ⌜ 2 * k + 1 < length (now w) ⌝ }
+    ensures { λ f. ⌜ (f .rise ≡ getD (now (w .entry)) (2 * k) 0) × (f .run ≡ getD (now (w .entry)) (2 * k + 1) 0) ⌝ }
+{
+    Fraction {
+        rise: w[2 * k],
+        run: w[2 * k + 1],
+    }
+}
+
+// Stores words as slope k.
+pub fn store(w: &mut [u32], k: usize, f: Fraction)
+    requires { ⌜ 2 * k + 1 < length (now w) ⌝ }
+    ensures { λ _. ⌜ now (w .exit) ≡ put (now (w .entry)) k (f .rise) (f .run) ⌝ }
+{
+    w[2 * k] = f.rise;
+    w[2 * k + 1] = f.run;
+}
+
+// One of two, by a test.
+pub fn chosen(test: bool, f: Fraction, g: Fraction) -> Fraction
+    ensures { λ r. ⌜ r ≡ cond test f g ⌝ }
+{
+    if test { f } else { g }
+}
+
 // Copies slope i to the place of slope k.
 pub fn copy(w: &mut [u32], i: usize, k: usize)
     requires { ⌜ (2 * i + 1 < length (now w)) × (2 * k + 1 < length (now w)) ⌝ }
     ensures { λ _. ⌜ now (w .exit) ≡ copied (now (w .entry)) i k ⌝ }
 {
-    let a = w[2 * i];
-    let b = w[2 * i + 1];
-    w[2 * k] = a;
-    w[2 * k + 1] = b;
+    store(w, k, fraction_at(w, i));
 }
 
 // One of the two cross products of j and k.

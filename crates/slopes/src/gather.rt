@@ -22,6 +22,17 @@ fn ordered(w: &[u32], i: usize, j: usize) -> Pair
     }
 }
 
+// The place of the middle of three slopes; k is the last of their places.
+pub fn middle_of_three(w: &[u32], i: usize, j: usize, k: usize) -> usize
+    requires { ⌜ Listed (k + 1) (now w) × (i ≤ k) × (j ≤ k) ⌝ }
+    ensures { λ r. ⌜ r ≤ k ⌝ }
+{
+    let a = ordered(w, i, j);
+    let b = ordered(w, a.high, k);
+    let c = ordered(w, a.low, b.low);
+    c.high
+}
+
 // The place of the middle of the five slopes from i on: of the first four the least and the greatest are left out, then of three.
 fn middle(w: &[u32], i: usize) -> usize
     requires { ⌜ Listed (i + 5) (now w) ⌝ }
@@ -31,10 +42,7 @@ fn middle(w: &[u32], i: usize) -> usize
     let b = ordered(w, i + 2, i + 3);
     let c = ordered(w, a.low, b.low);
     let d = ordered(w, a.high, b.high);
-    let e = ordered(w, c.high, d.low);
-    let f = ordered(w, e.high, i + 4);
-    let g = ordered(w, e.low, f.low);
-    g.high
+    middle_of_three(w, c.high, d.low, i + 4)
 }
 
 // Gathers the middles of the groups of five, and says how many they are.

@@ -1,6 +1,6 @@
 // The pick of a slope: the slope of a given rank among those that lie at the front of scratch, two words each. Slopes are compared by cross products and
 // never divided. A step parts the slopes below a pivot from those above it and goes on with the side that has the rank; correctness needs only that the pivot is
-// one of the slopes.
+// one of the slopes. A short list is counted through.
 mod fraction;
 mod gather;
 mod scan;
@@ -27,6 +27,9 @@ fn pick(w: &mut [u32], n: usize, r: usize, wide: bool) -> Slope
     requires { ⌜ Pickable n r (now w) ⌝ }
     ensures { λ s. ⌜ Answers r (fractions n (now (w .entry))) (as-slope s) ⌝ }
 {
+    if n <= 12 {
+        return scan::short(w, n, r);
+    }
     let p = pivot(w, n, wide);
     let s = scan::narrow(w, n, r, p);
     let k = s.n;
@@ -36,14 +39,14 @@ fn pick(w: &mut [u32], n: usize, r: usize, wide: bool) -> Slope
     pick(w, k, s.r, 3 * n < 4 * k)
 }
 
-// One of the n slopes at the front of w, found by picking: the middle of a sample, or after a wide step the middle of the middles of groups of five. Of a short
-// list it is the slope in the middle place.
+// One of the n slopes at the front of w, found by picking: the middle of a sample, or after a wide step the middle of the middles of groups of five. Of fewer than
+// 40 it is the middle of three.
 fn pivot(w: &mut [u32], n: usize, wide: bool) -> Slope
     requires { ⌜ Pivotable n (now w) ⌝ }
     ensures { λ s. ⌜ Pivoted n (now (w .entry)) (now (w .exit)) (as-slope s) ⌝ }
 {
     if n < 40 {
-        return fraction::slope_at(w, n / 2);
+        return fraction::slope_at(w, gather::middle_of_three(w, n / 4, n / 2, n - 1));
     }
     let g = gather::few(w, n, wide);
     let e = 2 * n;

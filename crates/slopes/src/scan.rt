@@ -1,13 +1,17 @@
 // Passes over the slopes at the front of scratch.
 use super::Slope;
+use super::fraction::chosen;
 use super::fraction::copy;
+use super::fraction::fraction_at;
 use super::fraction::less;
 use super::fraction::slope_at;
+use super::fraction::slope_of;
+use super::fraction::store;
 ghost use mathlib.Core.List.{List·Memᴰ};
 ghost use Prim.Native.Nat.{_*_, _≤_};
 ghost use lib.ListN.{length, drop};
 ghost use Rattle.slopes.specs.Fractions.{as-slope, fractions, Near, Pickable};
-ghost use Rattle.slopes.specs.Passes.{Roomy, Parted, Alike, Narrowed};
+ghost use Rattle.slopes.specs.Passes.{Listed, Roomy, Parted, Lifted, Answers, Alike, Narrowed};
 
 // How many slopes lie below another, and how many above.
 struct Counts {
@@ -33,6 +37,40 @@ fn part(w: &mut [u32], n: usize, p: Slope) -> Counts
         i += 1;
     }
     Counts { below, above }
+}
+
+// Takes the least of the n slopes at the front out; the others close up.
+fn least(w: &mut [u32], n: usize) -> Slope
+    requires { ⌜ Listed n (now w) × (1 ≤ n) ⌝ }
+    ensures { λ p. ⌜ Lifted n (now (w .entry)) (as-slope p) (now (w .exit)) ⌝ }
+{
+    let mut p = fraction_at(w, 0);
+    let mut i = 0;
+    while i + 1 < n {
+        let f = fraction_at(w, i + 1);
+        let under = less(slope_of(f.rise, f.run), slope_of(p.rise, p.run));
+        store(w, i, chosen(under, p, f));
+        p = chosen(under, f, p);
+        i += 1;
+    }
+    slope_of(p.rise, p.run)
+}
+
+// The slope of rank r in a short list: the least is taken out until it has the rank.
+pub fn short(w: &mut [u32], n: usize, r: usize) -> Slope
+    requires { ⌜ Pickable n r (now w) ⌝ }
+    ensures { λ s. ⌜ Answers r (fractions n (now (w .entry))) (as-slope s) ⌝ }
+{
+    let mut m = n;
+    let mut s = r;
+    loop {
+        let p = least(w, m);
+        if s == 1 {
+            return p;
+        }
+        m -= 1;
+        s -= 1;
+    }
 }
 
 // The m slopes behind the first n, at the front.

@@ -3,7 +3,7 @@ use native.Mathlib.Omega.{arith}
 use mathlib.Core.Path.{_∙_}
 use borrow.Author.Needs.{needs}
 use Rattle.slopes.specs.Laws.{near-of}
-use Rattle.slopes.specs.Steps.{roomy, kept-count, kept-most, kept-alike, narrowed-below, narrowed-above, narrowed-none}
+use Rattle.slopes.specs.Steps.{counted-most, roomy, kept-alike, narrowed-below, narrowed-above, narrowed-none}
 use Rattle.slopes.proofs.scan.narrow.Statement.{statement}
 use Rattle.slopes.proofs.scan.narrow.Tie as tie
 
@@ -11,14 +11,14 @@ part-requires : tie.Need-part-requires
 part-requires c κs = let h = c .before .before .pre in (roomy (h .0), near-of (h .0 .sound) (h .1))
 
 sub-upto : tie.Need-sub-upto
-sub-upto c = kept-most (c .before .before .part .ensures .above-kept)
+sub-upto c = counted-most (c .before .before .part .ensures .counted) .1
 
 returns : tie.Need-returns
 returns c =
     let p = c .before .before .before .part in
     let s = c .before .before .before .before .before .before in
     let test = c .if1 .taken in
-    narrowed-below (s .pre .0) (s .pre .1) (p .kept .0) (p .ensures .below-kept) (omega (arith, kept-count (p .ensures .below-kept)))
+    narrowed-below (s .pre .0) (s .pre .1) (p .ensures .counted) (p .kept .0) (p .ensures .below-kept) (omega arith)
 
 returns-2 : tie.Need-returns-2
 returns-2 c =
@@ -26,7 +26,7 @@ returns-2 c =
     let s = c .before .before .before .before .before .before .before in
     let more = c .before .if1 .left in
     let test = c .if2 .taken in
-    narrowed-none (s .pre .0) (s .pre .1) (omega (arith, kept-count (p .ensures .below-kept))) (kept-count (p .ensures .above-kept)) (omega arith)
+    narrowed-none (s .pre .0) (s .pre .1) (p .ensures .counted) (omega arith) (omega arith)
 
 front-requires : tie.Need-front-requires
 front-requires c κs =
@@ -34,7 +34,8 @@ front-requires c κs =
     let s = c .before .before .before .before .before .before .before .before in
     let room = s .pre .0 .room in
     let long = p .kept .0 in
-    (kept-most (p .ensures .above-kept), omega arith)
+    let most = counted-most (p .ensures .counted) in
+    (omega arith, omega arith)
 
 same-length-3 : tie.Need-same-length-3
 same-length-3 c = search needs
@@ -45,9 +46,8 @@ returns-3 c =
     let e = c .before .before .before .before in
     let p = e .before .before .before .before .part in
     let s = e .before .before .before .before .before .before .before in
-    let kept = kept-alike (p .ensures .above-kept) (f .ensures) in
     let test = e .if2 .left in
-    narrowed-above (s .pre .0) (s .pre .1) (f .kept .0 ∙ p .kept .0) kept (kept-count kept) (omega arith)
+    narrowed-above (s .pre .0) (s .pre .1) (p .ensures .counted) (f .kept .0 ∙ p .kept .0) (kept-alike (p .ensures .above-kept) (f .ensures)) (omega arith)
 
 pub narrow-spec : {M : Type 1} → statement M
 narrow-spec =

@@ -1,6 +1,6 @@
 -- `slopes::scan::part` meets its contract. The loop's invariant: of the first i slopes those below p stand at the front and those above it behind the n, and
 -- from slope i on the n are as they came. Assumes nothing.
-use mathlib.Core.Path.{_≡_, sym, ap, _∙_, subst, subst₂}
+use mathlib.Core.Path.{_≡_, sym, ap, _∙_, subst}
 use mathlib.Core.List.{List}
 use Prim.Native.Nat.{ℕ, _+_, _*_, _≤_, _<_, _-_}
 use native.Mathlib.Omega.{arith}
@@ -10,8 +10,8 @@ use Rattle.rules.specs.Round.{slope-le}
 use Rattle.ranks.specs.Ranks.{under, over}
 use Rattle.slopes.specs.Fractions.{as-slope}
 use Rattle.slopes.specs.Passes.{copied}
-use Rattle.slopes.specs.Steps.{Parting, parting-none, parting-more, stands-here, inside-above, inside-once, inside-below, parted}
-use Rattle.slopes.proofs.Words.{byte-is, byte-most}
+use Rattle.slopes.specs.Steps.{counted-most, Parting, parting-none, parting-more, stands-here, inside-above, inside-once, inside-below, parted}
+use Rattle.slopes.proofs.Words.{as-bytes, byte-most}
 use Rattle.slopes.proofs.scan.part.Statement.{statement}
 use Rattle.slopes.proofs.scan.part.Tie as tie
 
@@ -30,7 +30,7 @@ slope-at-requires c κs = stands-here (c .before .before .before .before .pre .0
 add-copy : tie.Need-add-copy Inv-loop μ-loop
 add-copy c =
     let l = c .before .before .before .before .loop in
-    omega (arith, l .inv .1 .above-fewer, c .before .before .before .before .before .before .pre .0 .room)
+    omega (arith, counted-most (l .inv .1 .counted), c .before .before .before .before .before .before .pre .0 .room)
 
 copy-requires : tie.Need-copy-requires Inv-loop μ-loop
 copy-requires c κs =
@@ -60,7 +60,7 @@ cast-below c = tt
 add-below : tie.Need-add-below Inv-loop μ-loop
 add-below c =
     let s = c .before .before .before .before .before .before .before .before .before in
-    omega (arith, byte-most (c .less .result), s .before .before .before .loop .inv .1 .below-fewer, s .before .before .before .before .before .pre .0 .room)
+    omega (arith, byte-most (c .less .result), counted-most (s .before .before .before .loop .inv .1 .counted), s .before .before .before .before .before .pre .0 .room)
 
 less-requires-2 : tie.Need-less-requires-2 Inv-loop μ-loop
 less-requires-2 c κs =
@@ -73,7 +73,7 @@ cast-above c = tt
 add-above : tie.Need-add-above Inv-loop μ-loop
 add-above c =
     let s = c .before .before .before .before .before .before .before .before .before .before in
-    omega (arith, byte-most (c .less2 .result), s .before .before .before .loop .inv .1 .above-fewer, s .before .before .before .before .before .pre .0 .room)
+    omega (arith, byte-most (c .less2 .result), counted-most (s .before .before .before .loop .inv .1 .counted), s .before .before .before .before .before .pre .0 .room)
 
 add-i : tie.Need-add-i Inv-loop μ-loop
 add-i c = omega arith
@@ -98,8 +98,7 @@ loop-again c =
       subst
           (λ (v : List ℕ). Parting (a .n) (a .w .now) v p (l .i + 1) (l .below + boolByte (below .result)) (l .above + boolByte (above .result)))
           (sym twice)
-          (subst₂ (λ (x y : ℕ). Parting (a .n) (a .w .now) stored p (l .i + 1) (l .below + x) (l .above + y))
-          (sym (byte-is (below .result))) (sym (byte-is (above .result)))
+          (as-bytes (λ (x y : ℕ). Parting (a .n) (a .w .now) stored p (l .i + 1) (l .below + x) (l .above + y)) (below .result) (above .result)
           (parting-more (from .pre .0) (l .inv .1) (s .before .before .loop-test .taken) (below .result) (above .result)
           (below .ensures ∙ ap (under slope-le p) (s .slope-at .ensures .is))
           (above .ensures ∙ ap (over slope-le p) (s .slope-at .ensures .is)))),
