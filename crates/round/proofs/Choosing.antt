@@ -30,11 +30,11 @@ below-zero a b = same-order b a (b -ℤ a) (pos 0) (λ h. omega (order, differen
 above-zero : (a b : ℤ) → ltZ a b ≡ ltZ (pos 0) (b -ℤ a)
 above-zero a b = same-order a b (pos 0) (b -ℤ a) (λ h. omega (order, difference b a)) (λ h. omega (order, difference b a))
 
-negated : (a b : ℤ) → ltZ (negℤ b) (negℤ a) ≡ ltZ a b
+pub negated : (a b : ℤ) → ltZ (negℤ b) (negℤ a) ≡ ltZ a b
 negated a b = same-order (negℤ b) (negℤ a) a b (λ h. omega (order, negation a, negation b)) (λ h. omega (order, negation a, negation b))
 
 -- of two numbers that differ, one is below the other
-pub apart : (a b : ℤ) → a ≢ b → ltZ b a ≡ not (ltZ a b)
+apart : (a b : ℤ) → a ≢ b → ltZ b a ≡ not (ltZ a b)
 apart a b f = go (ltZ a b) refl (ltZ b a) refl
   where
     go : (s : Bool) → ltZ a b ≡ s → (t : Bool) → ltZ b a ≡ t → t ≡ not s
@@ -47,8 +47,20 @@ apart a b f = go (ltZ a b) refl (ltZ b a) refl
     go false e false g = absurd (f (≤ℤ-antisym (test-nlt b a g) (test-nlt a b e)))
 
 -- of two equal ones, neither is
-pub level : {a b : ℤ} → a ≡ b → ltZ a b ≡ false
+level : {a b : ℤ} → a ≡ b → ltZ a b ≡ false
 level {a} {b} h = nlt-test {a = a} {b = b} (omega order)
+
+-- how far b stands beyond a, seen from the west, or else from the east
+abbrev pub away : Bool → ℤ → ℤ → ℤ
+away w a b = cond w (b -ℤ a) (negℤ (b -ℤ a))
+
+away-below : (w : Bool) (a b : ℤ) → cond w (ltZ b a) (ltZ a b) ≡ ltZ (away w a b) (pos 0)
+away-below true a b = below-zero a b
+away-below false a b = above-zero a b ∙ sym (negated (pos 0) (b -ℤ a))
+
+away-above : (w : Bool) (a b : ℤ) → cond w (ltZ a b) (ltZ b a) ≡ ltZ (pos 0) (away w a b)
+away-above true a b = above-zero a b
+away-above false a b = below-zero a b ∙ sym (negated (b -ℤ a) (pos 0))
 
 -- ---- K against the slope of the way from p to q, and of the way back
 
@@ -98,60 +110,65 @@ module _ (at : ℕ → Stream) (K : Slope) (x y : ℕ) where
   abbrev over : ℤ
   over = excess K (at x) (at y)
 
-  module _ (h : ltZ (at x .east) (at y .east) ≡ true) where
-    has-slope : (t : Tops) → keeps at t (pair x y) ≡ keeps-of at t (some (slope (at x) (at y))) x y
-    has-slope t =
-        ap
-        (λ (b : Bool). keeps-of at t (cond b (some (slope (at x) (at y))) (cond (ltZ (at y .east) (at x .east)) (some (slope (at y) (at x))) none)) x y)
-        h
+  -- the order of the easts says which slope the pair has
+  by-easts : (t : Tops) {b c : Bool} → ltZ (at x .east) (at y .east) ≡ b → ltZ (at y .east) (at x .east) ≡ c
+      → keeps at t (pair x y) ≡ keeps-of at t (cond b (some (slope (at x) (at y))) (cond c (some (slope (at y) (at x))) none)) x y
+  by-easts t h g = ap₂ (λ (b c : Bool). keeps-of at t (cond b (some (slope (at x) (at y))) (cond c (some (slope (at y) (at x))) none)) x y) h g
 
-    -- the first lies west
+  -- the first lies west
+  module _ (h : ltZ (at x .east) (at y .east) ≡ true) where
     west-pair-west : keeps at (west K) (pair x y) ≡ chosen (ltZ over (pos 0)) true x y
     west-pair-west =
-        has-slope (west K)
+        by-easts (west K) h refl
         ∙ ap₂ (λ (b c : Bool). cond b (cond c y x ∷ []) (x ∷ y ∷ [])) (steeper K (at x) (at y)) h
         ∙ only-second x y (ltZ over (pos 0))
 
     west-pair-east : keeps at (east K) (pair x y) ≡ chosen true (ltZ (pos 0) over) x y
     west-pair-east =
-        has-slope (east K)
+        by-easts (east K) h refl
         ∙ ap₂ (λ (b c : Bool). cond b (cond c x y ∷ []) (x ∷ y ∷ [])) (flatter K (at x) (at y)) h
         ∙ only-first x y (ltZ (pos 0) over)
 
-  module _ (h : ltZ (at x .east) (at y .east) ≡ false) where
-    module _ (g : ltZ (at y .east) (at x .east) ≡ true) where
-      has-slope-back : (t : Tops) → keeps at t (pair x y) ≡ keeps-of at t (some (slope (at y) (at x))) x y
-      has-slope-back t =
-          ap₂ (λ (b c : Bool). keeps-of at t (cond b (some (slope (at x) (at y))) (cond c (some (slope (at y) (at x))) none)) x y) h g
+  -- the second lies west
+  module _ (h : ltZ (at x .east) (at y .east) ≡ false) (g : ltZ (at y .east) (at x .east) ≡ true) where
+    east-pair-west : keeps at (west K) (pair x y) ≡ chosen true (ltZ (pos 0) over) x y
+    east-pair-west =
+        by-easts (west K) h g
+        ∙ ap₂ (λ (b c : Bool). cond b (cond c y x ∷ []) (x ∷ y ∷ [])) (steeper-back K (at x) (at y)) h
+        ∙ only-first x y (ltZ (pos 0) over)
 
-      -- the second lies west
-      east-pair-west : keeps at (west K) (pair x y) ≡ chosen true (ltZ (pos 0) over) x y
-      east-pair-west =
-          has-slope-back (west K)
-          ∙ ap₂ (λ (b c : Bool). cond b (cond c y x ∷ []) (x ∷ y ∷ [])) (steeper-back K (at x) (at y)) h
-          ∙ only-first x y (ltZ (pos 0) over)
+    east-pair-east : keeps at (east K) (pair x y) ≡ chosen (ltZ over (pos 0)) true x y
+    east-pair-east =
+        by-easts (east K) h g
+        ∙ ap₂ (λ (b c : Bool). cond b (cond c x y ∷ []) (x ∷ y ∷ [])) (flatter-back K (at x) (at y)) h
+        ∙ only-second x y (ltZ over (pos 0))
 
-      east-pair-east : keeps at (east K) (pair x y) ≡ chosen (ltZ over (pos 0)) true x y
-      east-pair-east =
-          has-slope-back (east K)
-          ∙ ap₂ (λ (b c : Bool). cond b (cond c x y ∷ []) (x ∷ y ∷ [])) (flatter-back K (at x) (at y)) h
-          ∙ only-second x y (ltZ over (pos 0))
+  -- one of the two lies west
+  one-west : (w r : Bool) → ltZ (at x .east) (at y .east) ≡ r → ltZ (at y .east) (at x .east) ≡ not r
+      → keeps at (towards w K) (pair x y) ≡ chosen (cond w (not r) r || ltZ over (pos 0)) (cond w r (not r) || ltZ (pos 0) over) x y
+  one-west true true h g = west-pair-west h
+  one-west false true h g = west-pair-east h
+  one-west true false h g = east-pair-west h g
+  one-west false false h g = east-pair-east h g
 
-    -- neither does
-    pub upright-pair : (t : Tops) → ltZ (at y .east) (at x .east) ≡ false
-        → keeps at t (pair x y) ≡ chosen (not (ltZ (at x .north) (at y .north))) (ltZ (at x .north) (at y .north)) x y
-    upright-pair t g =
-        ap₂ (λ (b c : Bool). keeps-of at t (cond b (some (slope (at x) (at y))) (cond c (some (slope (at y) (at x))) none)) x y) h g
-        ∙ go (ltZ (at x .north) (at y .north))
-      where
-        go : (b : Bool) → cond b y x ∷ [] ≡ chosen (not b) b x y
-        go true = refl
-        go false = refl
+  -- so it is told by the sign of how far the second stands beyond the first, seen from the tops
+  pub slanted-pair : (w : Bool) → at x .east ≢ at y .east
+      → keeps at (towards w K) (pair x y)
+      ≡ chosen (ltZ (away w (at x .east) (at y .east)) (pos 0) || ltZ over (pos 0)) (ltZ (pos 0) (away w (at x .east) (at y .east)) || ltZ (pos 0) over) x y
+  slanted-pair w f =
+      let a = at x .east in
+      let b = at y .east in
+      let back = apart a b f in
+      one-west w (ltZ a b) refl back
+      ∙ ap₂ (λ (s t : Bool). chosen (s || ltZ over (pos 0)) (t || ltZ (pos 0) over) x y)
+      (ap (λ (t : Bool). cond w t (ltZ a b)) (sym back) ∙ away-below w a b)
+      (ap (cond w (ltZ a b)) (sym back) ∙ away-above w a b)
 
-  -- one lies west; the second is on the far side of the first, or not
-  pub slanted-pair : (r b : Bool) → ltZ (at x .east) (at y .east) ≡ r → ltZ (at y .east) (at x .east) ≡ not r
-      → keeps at (towards b K) (pair x y) ≡ chosen (not (cond r b (not b)) || ltZ over (pos 0)) (cond r b (not b) || ltZ (pos 0) over) x y
-  slanted-pair true true h g = west-pair-west h
-  slanted-pair true false h g = west-pair-east h
-  slanted-pair false true h g = east-pair-west h g
-  slanted-pair false false h g = east-pair-east h g
+  -- neither lies west
+  pub upright-pair : (t : Tops) → at x .east ≡ at y .east
+      → keeps at t (pair x y) ≡ chosen (not (ltZ (at x .north) (at y .north))) (ltZ (at x .north) (at y .north)) x y
+  upright-pair t e = by-easts t (level e) (level (sym e)) ∙ go (ltZ (at x .north) (at y .north))
+    where
+      go : (b : Bool) → cond b y x ∷ [] ≡ chosen (not b) b x y
+      go true = refl
+      go false = refl

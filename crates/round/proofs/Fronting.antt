@@ -4,23 +4,18 @@ use mathlib.Core.Path.{_≡_, refl, sym, ap, ap₂, _∙_}
 use mathlib.Core.Bool.{Bool, true, false}
 use mathlib.Core.List.{List, [], _∷_, _++_, append-nil, append-assoc}
 use Prim.Native.Nat.{ℕ, suc, _+_, _≤_, _<_}
-use native.Mathlib.Nat.{add-zero, le-refl}
-use native.Mathlib.Numerals.{add-one}
+use native.Mathlib.Nat.{add-zero}
 use native.Mathlib.Omega.{arith}
 use mir.Val.{boolByte}
 use lib.ListN.{length, getD, take, drop, set, length-set, drop-of-length-le}
-use lib.Seq.{getD-drop, drop-cons, drop-drop, drop-set-lt, take-set-le, take-suc-set}
+use lib.Seq.{getD-drop, drop-cons, drop-drop, drop-set-lt}
 use Rattle.rules.specs.Lists.{consIf}
 use Rattle.rules.specs.Streams.{Stream}
 use Rattle.rules.specs.Round.{Tops, pair, odd, paired, keeps, keep}
+use Rattle.ranks.specs.Kept.{stored}
 use Rattle.samples.specs.Scans.{byte-most}
 use Rattle.round.specs.Keeping.{chosen, KeptFront}
 use Rattle.round.proofs.Places.{drop-two}
-
--- a number stored behind k others, which counts where the test holds
-stored : (l : List ℕ) (k v : ℕ) (b : Bool) → k < length l → take (k + boolByte b) (set l k v) ≡ take k l ++ consIf b v []
-stored l k v true h = ap (λ (n : ℕ). take n (set l k v)) (add-one k) ∙ take-suc-set l k v h
-stored l k v false h = ap (λ (n : ℕ). take n (set l k v)) (add-zero k) ∙ take-set-le k l k v (le-refl k) ∙ sym (append-nil (take k l))
 
 both : (l : List ℕ) (x y : ℕ) (b c : Bool) → (l ++ consIf b x []) ++ consIf c y [] ≡ l ++ chosen b c x y
 both l x y true c = append-assoc l (x ∷ []) (consIf c y [])

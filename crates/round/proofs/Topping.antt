@@ -1,216 +1,134 @@
--- The tops of the first i samples of a list, as a loop carries them: at the start, one sample more, at the end.
+-- Keys by which the tops are found, and the sample with the greatest key of the first i of a list, as a loop carries it: at the start, one sample more, at the
+-- end.
 -- Assumes nothing.
-use mathlib.Core.Path.{_≡_, refl, sym, ap, ap₂, _∙_}
+use mathlib.Core.Path.{_≡_, refl, sym, ap, ap₂, _∙_, subst, fun-ext}
 use mathlib.Core.Bool.{Bool, true, false, cond, _||_, _&&_}
-use mathlib.Core.List.{List}
-use Prim.Native.Nat.{ℕ, _+_, _≤_, _<_}
+use mathlib.Core.Logic.{⊎-elim}
+use mathlib.Core.List.{List, [], _∷_, List·Memᴰ}
+use Prim.Native.Nat.{ℕ, _+_, _*_, _≤_, _<_}
 use native.Mathlib.Numerals.{add-one}
 use native.Mathlib.Omega.{arith}
-use lib.IntN.{ℤ}
-use lib.Signed.{_≤ℤ_, _<ℤ_, ltZ, ≤ℤ-refl}
+use lib.IntN.{ℤ, pos, negℤ, _+ℤ_, _*ℤ_}
+use lib.Signed.{ltZ}
 use lib.ListN.{length, getD, drop, drop-of-length-le}
 use lib.Seq.{drop-cons}
-use Rattle.whole.specs.Linear.{order}
-use Rattle.whole.specs.Laws.{≤ℤ-of-≡, <ℤ→≤ℤ, <ℤ→≢, lt-test, nlt-test, eq-test, ne-test}
+use Rattle.whole.specs.Linear.{up, dn, order, sum, multiple}
+use Rattle.whole.specs.Laws.{≤ℤ-split, lt-test, nlt-test}
+use Rattle.whole.specs.Solver.{var, num, _⊖_, _⊗_, ⊝_, ring}
+use Rattle.whole.specs.Fits.{Within, []ʷ, _∷ʷ_, value-within, at-most, at-least}
 use Rattle.rules.specs.Lists.{best-from}
-use Rattle.rules.specs.Streams.{Stream, eqZ}
+use Rattle.rules.specs.Streams.{Stream, limit, eqZ}
 use Rattle.rules.specs.Round.{Slope, height, left-top, right-top}
-use Rattle.round.specs.declared.tops.Tops.{Tops}
-use Rattle.round.specs.Tops.{top-of, better-of, Topped}
+use Rattle.outline.specs.Lists.{at-place-in, two-keys-yes, two-keys-no}
+use Rattle.samples.specs.Positions.{Near}
+use Rattle.round.specs.declared.tops.Top.{Top}
+use Rattle.round.specs.Tops.{spread, scaled, key, better-of}
+use Rattle.round.proofs.Choosing.{negated}
 
--- a test by height, and by another test where the heights are level
-module _ {h k : ℤ} (r : Bool) where
-  by-higher : h <ℤ k → (ltZ h k || eqZ k h && r) ≡ true
-  by-higher l = ap (λ (b : Bool). b || eqZ k h && r) (lt-test l)
+-- ---- the order of keys
 
-  by-lower : k <ℤ h → (ltZ h k || eqZ k h && r) ≡ false
-  by-lower l = ap₂ (λ (b c : Bool). b || c && r) (nlt-test (<ℤ→≤ℤ l)) (ne-test (<ℤ→≢ l))
+-- a number times the spread, which is more than two numbers within the limit can differ by, and one within the limit
+abbrev joint : ℤ → ℤ → ℤ
+joint h x = pos spread *ℤ h +ℤ x
 
-  by-level : k ≡ h → (ltZ h k || eqZ k h && r) ≡ r
-  by-level e = ap₂ (λ (b c : Bool). b || c && r) (nlt-test (≤ℤ-of-≡ e)) (eq-test e)
+joint-is : (h x : ℤ) → up (joint h x) + (spread * dn h + dn x) ≡ spread * up h + up x + dn (joint h x)
+joint-is h x = omega (arith, multiple spread h, sum (pos spread *ℤ h) x)
 
-module _ (at : ℕ → Stream) (K : Slope) (list : List ℕ) where
-  abbrev pub first : ℕ
+-- the first decides, and where the first are equal the second
+joint-test : (h g : ℤ) {x y : ℤ} → Within x limit → Within y limit → ltZ (joint h x) (joint g y) ≡ (ltZ h g || eqZ g h && ltZ x y)
+joint-test h g {x} {y} p q = go (ltZ h g || eqZ g h && ltZ x y) refl
+  where
+    go : (b : Bool) → (ltZ h g || eqZ g h && ltZ x y) ≡ b → ltZ (joint h x) (joint g y) ≡ b
+    go true e =
+        lt-test {a = joint h x} {b = joint g y}
+        (⊎-elim
+        (λ l. omega (order, joint-is h x, joint-is g y, at-most p, at-least q))
+        (λ k. omega (order, joint-is h x, joint-is g y, k .0, k .1))
+        (two-keys-yes h g g h x y e))
+    go false e =
+        let k = two-keys-no h g g h x y e in
+        nlt-test {a = joint h x} {b = joint g y}
+        (⊎-elim
+        (λ l. omega (order, joint-is h x, joint-is g y, at-least p, at-most q))
+        (λ s. omega (order, joint-is h x, joint-is g y, k .1 s))
+        (≤ℤ-split (k .0)))
+
+-- so the order of keys by K, scaled, is that of heights by K, and between equal heights that of easts as a side counts them
+module _ (side : ℤ → ℤ) (K : Slope) {k : Slope} (e : k ≡ scaled K) where
+  height-scaled : (s : Stream) → height k s ≡ pos spread *ℤ height K s
+  unfolding height
+  height-scaled s =
+      ap (λ (j : Slope). height j s) e
+      ∙ ring (K .run ∷ s .north ∷ K .rise ∷ s .east ∷ [])
+      (var 0 ⊗ num (pos spread) ⊗ var 1 ⊖ var 2 ⊗ num (pos spread) ⊗ var 3)
+      (num (pos spread) ⊗ (var 0 ⊗ var 1 ⊖ var 2 ⊗ var 3))
+      refl
+
+  key-test : (p q : Stream) → Within (side (p .east)) limit → Within (side (q .east)) limit
+      → ltZ (key side k p) (key side k q)
+      ≡ (ltZ (height K p) (height K q) || eqZ (height K q) (height K p) && ltZ (side (p .east)) (side (q .east)))
+  key-test p q h j =
+      ap₂ (λ (y z : ℤ). ltZ (y +ℤ side (p .east)) (z +ℤ side (q .east))) (height-scaled p) (height-scaled q)
+      ∙ joint-test (height K p) (height K q) h j
+
+-- ---- the sample with the greatest key
+
+-- the first of two has the greater key
+abbrev pub greater : (ℕ → ℤ) → ℕ → ℕ → Bool
+greater key-of x y = ltZ (key-of y) (key-of x)
+
+module _ (key-of : ℕ → ℤ) (list : List ℕ) where
+  abbrev beats : ℕ → ℕ → Bool
+  beats = greater key-of
+
+  abbrev first : ℕ
   first = getD list 0 0
 
-  -- the best of all is the best of this one and the samples from place i on
-  abbrev pub Leads : (ℕ → ℕ → Bool) → ℕ → ℕ → Type 0
-  Leads beats i b = best-from beats b (drop i list) ≡ best-from beats first (drop 1 list)
+  -- the best of all is the best of this listed one and the samples from place i on
+  pub record Leads (i : ℕ) (t : Top) : Type 0 where
+    pub given : List·Memᴰ (t .number) list
+    pub key-is : t .key ≡ key-of (t .number)
+    pub leads : best-from beats (t .number) (drop i list) ≡ best-from beats first (drop 1 list)
 
-  pub record Topping (i : ℕ) (t : Tops) : Type 0 where
-    pub inside : i ≤ length list
-    pub left-leads : Leads (left-top at K) i (t .left)
-    pub right-leads : Leads (right-top at K) i (t .right)
-    pub left-height : t .height ≡ height K (at (t .left))
-    pub right-height : t .height ≡ height K (at (t .right))
-    pub from-is : t .from ≡ at (t .left) .east
-    pub to-is : t .to ≡ at (t .right) .east
-    pub in-order : t .from ≤ℤ t .to
+  pub leads-first : {z : ℤ} → 1 ≤ length list → z ≡ key-of first → Leads 1 (record { key = z; number = first })
+  leads-first h k = record { given = at-place-in list 0 0 h; key-is = k; leads = refl }
 
-  pub topping-first : 1 ≤ length list → Topping 1 (top-of at K first)
-  topping-first h =
-      record {
-        inside = h;
-        left-leads = refl;
-        right-leads = refl;
-        left-height = refl;
-        right-height = refl;
-        from-is = refl;
-        to-is = refl;
-        in-order = ≤ℤ-refl (at first .east);
-      }
-
-  module _ (i : ℕ) (h : i < length list) where
+  module _ (i : ℕ) (h : i < length list) {t : Top} (g : Leads i t) where
     abbrev y : ℕ
     y = getD list i 0
 
-    -- the next one leads where it beats the leader, which else leads on
-    on : (beats : ℕ → ℕ → Bool) (b d : ℕ) (t : Bool) → beats y b ≡ t → d ≡ cond t y b → Leads beats i b → Leads beats (i + 1) d
+    pub leads-more : {z : ℤ} {u : Top} → z ≡ key-of y → u ≡ better-of t z y → Leads (i + 1) u
     unfolding best-from
-    on beats b d t e f l =
-        ap₂ (λ (x n : ℕ). best-from beats x (drop n list)) (f ∙ ap (λ (u : Bool). cond u y b) (sym e)) (add-one i)
-        ∙ sym (ap (best-from beats b) (drop-cons list i 0 h))
-        ∙ l
+    leads-more {z} k e = subst (Leads (i + 1)) (sym e) (go (ltZ (t .key) z) (sym (ap₂ ltZ (g .key-is) k)))
+      where
+        on : {b : Bool} → beats y (t .number) ≡ b → best-from beats (cond b y (t .number)) (drop (i + 1) list) ≡ best-from beats first (drop 1 list)
+        on e =
+            ap₂ (λ (b : Bool) (n : ℕ). best-from beats (cond b y (t .number)) (drop n list)) (sym e) (add-one i)
+            ∙ sym (ap (best-from beats (t .number)) (drop-cons list i 0 h))
+            ∙ g .leads
 
-    module _ (t : Tops) (g : Topping i t) where
-      s : Tops
-      s = top-of at K y
+        go : (b : Bool) → beats y (t .number) ≡ b → Leads (i + 1) (cond b (record { key = z; number = y }) t)
+        go true e = record { given = at-place-in list i 0 h; key-is = k; leads = on e }
+        go false e = record { given = g .given; key-is = g .key-is; leads = on e }
 
-      lh : t .height ≡ height K (at (t .left))
-      lh = g .left-height
-
-      rh : t .height ≡ height K (at (t .right))
-      rh = g .right-height
-
-      -- the next one is higher
-      higher : ltZ (t .height) (height K (at y)) ≡ true → Topping (i + 1) s
-      unfolding s left-top right-top
-      higher e =
-          let a = lh in
-          let b = rh in
-          let left : height K (at (t .left)) <ℤ height K (at y) = omega order in
-          let right : height K (at (t .right)) <ℤ height K (at y) = omega order in
-          record {
-            inside = omega arith;
-            left-leads = on (left-top at K) (t .left) y true (by-higher _ left) refl (g .left-leads);
-            right-leads = on (right-top at K) (t .right) y true (by-higher _ right) refl (g .right-leads);
-            left-height = refl;
-            right-height = refl;
-            from-is = refl;
-            to-is = refl;
-            in-order = ≤ℤ-refl (at y .east);
-          }
-
-      -- it is lower
-      lower : ltZ (height K (at y)) (t .height) ≡ true → Topping (i + 1) t
-      unfolding left-top right-top
-      lower e =
-          let a = lh in
-          let b = rh in
-          let left : height K (at y) <ℤ height K (at (t .left)) = omega order in
-          let right : height K (at y) <ℤ height K (at (t .right)) = omega order in
-          record {
-            inside = omega arith;
-            left-leads = on (left-top at K) (t .left) (t .left) false (by-lower _ left) refl (g .left-leads);
-            right-leads = on (right-top at K) (t .right) (t .right) false (by-lower _ right) refl (g .right-leads);
-            left-height = lh;
-            right-height = rh;
-            from-is = g .from-is;
-            to-is = g .to-is;
-            in-order = g .in-order;
-          }
-
-      -- it is as high
-      module _ (e : ltZ (t .height) (height K (at y)) ≡ false) (f : ltZ (height K (at y)) (t .height) ≡ false) where
-        left-test : {b : Bool} → ltZ (at y .east) (t .from) ≡ b → left-top at K y (t .left) ≡ b
-        unfolding left-top
-        left-test k =
-            let a = lh in
-            let e : height K (at y) ≡ height K (at (t .left)) = omega order in
-            by-level _ e ∙ ap (ltZ (at y .east)) (sym (g .from-is)) ∙ k
-
-        right-test : {b : Bool} → ltZ (t .to) (at y .east) ≡ b → right-top at K y (t .right) ≡ b
-        unfolding right-top
-        right-test k =
-            let a = rh in
-            let e : height K (at y) ≡ height K (at (t .right)) = omega order in
-            by-level _ e ∙ ap (λ (z : ℤ). ltZ z (at y .east)) (sym (g .to-is)) ∙ k
-
-        level : t .height ≡ height K (at y)
-        level = omega order
-
-        new-left : ltZ (at y .east) (t .from) ≡ true
-            → Topping (i + 1) (record { height = t .height; left = y; from = at y .east; right = t .right; to = t .to })
-        new-left k =
-            let o = g .in-order in
-            let west : at y .east ≤ℤ t .to = omega order in
-            record {
-              inside = omega arith;
-              left-leads = on (left-top at K) (t .left) y true (left-test k) refl (g .left-leads);
-              right-leads = on (right-top at K) (t .right) (t .right) false (right-test (nlt-test west)) refl (g .right-leads);
-              left-height = level;
-              right-height = rh;
-              from-is = refl;
-              to-is = g .to-is;
-              in-order = west;
-            }
-
-        new-right : ltZ (at y .east) (t .from) ≡ false → ltZ (t .to) (at y .east) ≡ true
-            → Topping (i + 1) (record { height = t .height; left = t .left; from = t .from; right = y; to = at y .east })
-        new-right j k =
-            record {
-              inside = omega arith;
-              left-leads = on (left-top at K) (t .left) (t .left) false (left-test j) refl (g .left-leads);
-              right-leads = on (right-top at K) (t .right) y true (right-test k) refl (g .right-leads);
-              left-height = lh;
-              right-height = level;
-              from-is = g .from-is;
-              to-is = refl;
-              in-order = omega order;
-            }
-
-        between : ltZ (at y .east) (t .from) ≡ false → ltZ (t .to) (at y .east) ≡ false → Topping (i + 1) t
-        between j k =
-            record {
-              inside = omega arith;
-              left-leads = on (left-top at K) (t .left) (t .left) false (left-test j) refl (g .left-leads);
-              right-leads = on (right-top at K) (t .right) (t .right) false (right-test k) refl (g .right-leads);
-              left-height = lh;
-              right-height = rh;
-              from-is = g .from-is;
-              to-is = g .to-is;
-              in-order = g .in-order;
-            }
-
-      pub topping-more : Topping (i + 1) (better-of t (top-of at K y))
-      unfolding s
-      topping-more =
-          go (ltZ (t .height) (height K (at y))) (ltZ (height K (at y)) (t .height)) (ltZ (at y .east) (t .from)) (ltZ (t .to) (at y .east))
-          refl refl refl refl
-        where
-          go : (a b c d : Bool)
-              → ltZ (t .height) (height K (at y)) ≡ a → ltZ (height K (at y)) (t .height) ≡ b
-              → ltZ (at y .east) (t .from) ≡ c → ltZ (t .to) (at y .east) ≡ d
-              → Topping (i + 1)
-              (cond a s
-              (cond b t
-              (cond c (record { height = t .height; left = y; from = at y .east; right = t .right; to = t .to })
-              (cond d (record { height = t .height; left = t .left; from = t .from; right = y; to = at y .east }) t))))
-          go true b c d p q r u = higher p
-          go false true c d p q r u = lower q
-          go false false true d p q r u = new-left p q r
-          go false false false true p q r u = new-right p q r u
-          go false false false false p q r u = between p q r u
-
-  leader : (beats : ℕ → ℕ → Bool) {i b : ℕ} → length list ≤ i → Leads beats i b → b ≡ best-from beats first (drop 1 list)
+  pub leads-all : {best : ℕ → ℕ → Bool} {i : ℕ} {t : Top} → beats ≡ best → length list ≤ i → Leads i t → t .number ≡ best-from best first (drop 1 list)
   unfolding best-from
-  leader beats {i} {b} h l = sym (ap (best-from beats b) (drop-of-length-le list h)) ∙ l
+  leads-all {t} e h g =
+      sym (ap (best-from beats (t .number)) (drop-of-length-le list h)) ∙ g .leads ∙ ap (λ (b : ℕ → ℕ → Bool). best-from b first (drop 1 list)) e
 
-  pub topping-all : {i : ℕ} {t : Tops} → length list ≤ i → Topping i t → Topped at K list t
-  topping-all h g =
-      record {
-        left-is = leader (left-top at K) h (g .left-leads);
-        right-is = leader (right-top at K) h (g .right-leads);
-        from-is = g .from-is;
-        to-is = g .to-is;
-      }
+-- ---- the greatest keys are the tops'
+
+module _ (at : ℕ → Stream) (near : (x : ℕ) → Near (at x)) (K : Slope) {k : Slope} (e : k ≡ scaled K) where
+  pub left-greater : greater (λ x. key negℤ k (at x)) ≡ left-top at K
+  unfolding left-top
+  left-greater =
+      fun-ext (λ x. fun-ext (λ y. key-test negℤ K e (at y) (at x) (turned y) (turned x)
+      ∙ ap (λ (b : Bool). ltZ (height K (at y)) (height K (at x)) || eqZ (height K (at x)) (height K (at y)) && b)
+      (negated (at x .east) (at y .east))))
+    where
+      turned : (x : ℕ) → Within (negℤ (at x .east)) limit
+      turned x = value-within (near x .east-near ∷ʷ []ʷ) (⊝ var 0)
+
+  pub right-greater : greater (λ x. key (λ z. z) k (at x)) ≡ right-top at K
+  unfolding right-top
+  right-greater = fun-ext (λ x. fun-ext (λ y. key-test (λ z. z) K e (at y) (at x) (near y .east-near) (near x .east-near)))

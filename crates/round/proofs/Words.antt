@@ -1,20 +1,23 @@
 -- The numbers of positions and slopes as words: the bounds from which the sums and products of the code fit.
 -- Assumes nothing.
-use mathlib.Core.Path.{_≡_, refl, ap, subst⁻¹}
+use mathlib.Core.Path.{_≡_, refl, ap, ap₂, subst⁻¹}
 use mathlib.Core.List.{List, [], _∷_}
-use Prim.Native.Nat.{ℕ, _^_}
+use Prim.Native.Nat.{ℕ, _^_, _<_}
 use native.Mathlib.Nat.{lt-of-le-of-lt}
+use borrow.Author.Needs.{sfits-of}
 use lib.Dec.{T, ltb, ltb→lt}
 use lib.IntN.{ℤ, pos, negsuc, natAbs}
-use lib.Signed.{nonNeg, _≤ℤ_}
+use lib.Signed.{mag, nonNeg, _≤ℤ_}
 use mir.Syntax.{w32, w64}
 use mir.Val.{Fits, toZ, ofZ}
-use Rattle.whole.specs.Solver.{Ex, var, eval}
-use Rattle.whole.specs.Fits.{Within, Held, Leaves, Bounded, []ʷ, _∷ʷ_, _∷ᶜ_, cast-within, value-fits, value-within, bound, safe, word, word-is}
+use mir.Facts.{toZ-ofZ}
+use Rattle.whole.specs.Solver.{Ex, var, num, _⊗_, eval}
+use Rattle.whole.specs.Fits.{Within, Held, Leaves, Bounded, []ʷ, _∷ʷ_, _∷ᶜ_, cast-within, value-fits, value-within, bound, safe, word, word-is, word-within}
 use Rattle.rules.specs.Streams.{Stream}
 use Rattle.rules.specs.Round.{Slope}
 use Rattle.slopes.specs.Fractions as fractions
 use Rattle.samples.specs.Positions.{Near}
+use Rattle.round.specs.Tops.{spread, slope-by, scaled, Scaled}
 
 -- a number of a slope, read as 32 bits
 abbrev read : ℤ → ℤ
@@ -23,12 +26,30 @@ read z = toZ w32 (ofZ w32 z)
 held : {z : ℤ} → Within z 2000000 → Held (read z) z 2000000
 held h = cast-within (value-fits w32 (h ∷ʷ []ʷ) (var 0) tt) h
 
--- K's run, a north, K's rise, an east
-pub height-leaves : {p : Stream} {K : Slope} → Near p → fractions.Near K
-    → Leaves (read (K .run) ∷ p .north ∷ read (K .rise) ∷ p .east ∷ [])
-    (K .run ∷ p .north ∷ K .rise ∷ p .east ∷ [])
-    (2000000 ∷ 1000000 ∷ 2000000 ∷ 1000000 ∷ [])
-height-leaves h k = held (k .run-near) ∷ᶜ h .north-near ∷ʷ held (k .rise-near) ∷ᶜ h .east-near ∷ʷ []ʷ
+-- a number that fits 64 bits is what its word is read as
+pub word-of : (z : ℤ) → mag z < 2 ^ 63 → toZ w64 (ofZ w64 z) ≡ z
+word-of z h = toZ-ofZ (sfits-of {w = w64} h)
+
+-- K's rise or run, and that times the spread
+pub slope-leaf : {z : ℤ} → Within z 2000000 → Leaves (read z ∷ []) (z ∷ []) (2000000 ∷ [])
+slope-leaf h = held h ∷ᶜ []ʷ
+
+abbrev pub times : Ex
+times = var 0 ⊗ num (pos spread)
+
+-- K scaled, as its words are read
+abbrev pub scaled-words : Slope → Slope
+scaled-words K = slope-by (word w64 (read (K .rise) ∷ []) times) (word w64 (read (K .run) ∷ []) times)
+
+pub scaled-is : {K : Slope} → fractions.Near K → scaled-words K ≡ scaled K
+scaled-is h = ap₂ slope-by (word-is w64 (slope-leaf (h .rise-near)) times tt) (word-is w64 (slope-leaf (h .run-near)) times tt)
+
+pub scaled-near : {K : Slope} → fractions.Near K → Scaled (scaled-words K)
+scaled-near h =
+    record {
+      rise-near = word-within w64 (slope-leaf (h .rise-near)) times tt;
+      run-near = word-within w64 (slope-leaf (h .run-near)) times tt;
+    }
 
 -- two positions: the east and the north of the first, and those of the second
 pub two-leaves : {p q : Stream} → Near p → Near q

@@ -1,30 +1,51 @@
--- The tops of a list: what the code's struct says, and what it asks.
+-- The tops of a list: the keys by which they are found, what the code asks and what its struct says.
 -- Assumes nothing.
 use mathlib.Core.Path.{_≡_}
 use mathlib.Core.Bool.{cond}
 use mathlib.Core.List.{List}
 use Prim.Native.Nat.{ℕ, _≤_}
-use lib.IntN.{ℤ}
+use lib.IntN.{ℤ, pos, negℤ, _+ℤ_, _*ℤ_}
 use lib.Signed.{ltZ}
 use lib.ListN.{length, getD, drop}
+use Rattle.whole.specs.Fits.{Within}
 use Rattle.rules.specs.Lists.{best-from}
 use Rattle.rules.specs.Streams.{Stream}
 use Rattle.rules.specs.Round.{Slope, height, left-top, right-top}
 use Rattle.slopes.specs.Fractions.{Near}
 use Rattle.samples.specs.Positions.{Sampled, Listed}
+use Rattle.round.specs.declared.tops.Top.{Top}
+use Rattle.round.specs.declared.tops.Keys.{Keys}
 use Rattle.round.specs.declared.tops.Tops.{Tops}
 
--- the tops of one sample
-abbrev pub top-of : (ℕ → Stream) → Slope → ℕ → Tops
-top-of at K x = record { height = height K (at x); left = x; from = at x .east; right = x; to = at x .east }
+-- more than two easts can differ by
+abbrev pub spread : ℕ
+spread = 2000001
 
--- the tops t of earlier samples with s, those of one sample more
-abbrev pub better-of : Tops → Tops → Tops
-better-of t s =
-    cond (ltZ (t .height) (s .height)) s
-    (cond (ltZ (s .height) (t .height)) t
-    (cond (ltZ (s .from) (t .from)) (record { height = t .height; left = s .left; from = s .from; right = t .right; to = t .to })
-    (cond (ltZ (t .to) (s .to)) (record { height = t .height; left = t .left; from = t .from; right = s .right; to = s .to }) t)))
+-- the slope of two numbers
+abbrev pub slope-by : ℤ → ℤ → Slope
+slope-by a b = record { rise = a; run = b }
+
+-- the slope whose heights are those of k times the spread
+abbrev pub scaled : Slope → Slope
+scaled k = slope-by (k .rise *ℤ pos spread) (k .run *ℤ pos spread)
+
+-- the rise and the run are within 2,000,000 times the spread
+pub record Scaled (k : Slope) : Type 0 where
+  pub rise-near : Within (k .rise) 4000002000000
+  pub run-near : Within (k .run) 4000002000000
+
+-- the key of a position by a scaled slope: its height and its east, as a side counts the east. The height decides, and between equal heights the east
+abbrev pub key : (ℤ → ℤ) → Slope → Stream → ℤ
+key side k s = height k s +ℤ side (s .east)
+
+-- the keys for the top furthest west and for the one furthest east
+pub record KeysAre (k : Slope) (s : Stream) (r : Keys) : Type 0 where
+  pub west-is : r .west ≡ key negℤ k s
+  pub east-is : r .east ≡ key (λ z. z) k s
+
+-- the sample of the greater key, the earlier of equal ones
+abbrev pub better-of : Top → ℤ → ℕ → Top
+better-of t k x = cond (ltZ (t .key) k) (record { key = k; number = x }) t
 
 -- a list of samples, not empty, and a slope
 pub record TopsAsk (es ns : List ℤ) (list : List ℕ) (K : Slope) : Type 0 where

@@ -2,7 +2,6 @@
 use samples::position::Position;
 use samples::position::position_of;
 use slopes::Slope;
-ghost use mathlib.Core.Bool.{cond, not};
 ghost use mathlib.Core.List.{_∷_, []};
 ghost use mathlib.Core.Path.{_≡_};
 ghost use Prim.Native.Nat.{_<_};
@@ -27,13 +26,6 @@ fn excess(p: Position, q: Position, k: Slope) -> i64
     (q.north - p.north) * (k.run as i64) - (k.rise as i64) * (q.east - p.east)
 }
 
-// The second of a pair stands on the far side of the first, seen from the tops: it lies east and the tops lie west, or neither does.
-fn beyond(east: bool, west: bool) -> bool
-    ensures { λ r. ⌜ r ≡ cond east west (not west) ⌝ }
-{
-    if east { west } else { !west }
-}
-
 // What a pair keeps where the tops lie west, all at most a, or else all above a.
 fn of_pair(e: &[i32], n: &[i32], lower: bool, x: u32, y: u32, k: Slope, west: bool) -> Keeps
     requires { ⌜ PairAsks (now e) (now n) x y (as-slope k) ⌝ }
@@ -42,11 +34,13 @@ fn of_pair(e: &[i32], n: &[i32], lower: bool, x: u32, y: u32, k: Slope, west: bo
     let p = position_of(e, n, x, lower);
     let q = position_of(e, n, y, lower);
     let c = excess(p, q, k);
-    if p.east != q.east {
-        let far = beyond(p.east < q.east, west);
+    let d = q.east - p.east;
+    if d != 0 {
+        // how far the second stands beyond the first, seen from the tops
+        let g = if west { d } else { -d };
         return Keeps {
-            first: !far | (c < 0),
-            second: far | (0 < c),
+            first: (g < 0) | (c < 0),
+            second: (0 < g) | (0 < c),
         };
     }
     let up = p.north < q.north;

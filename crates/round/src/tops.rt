@@ -1,78 +1,56 @@
-// The tops of a list: the samples with greatest north minus K times east.
-use samples::position::Position;
+// The tops of a list: the samples with greatest north minus K times east. The one furthest west and the one furthest east are found by keys, scaled heights
+// beside which the east counts only where heights are equal.
+use samples::position::east;
 use samples::position::position_of;
 use slopes::Slope;
 ghost use mathlib.Core.Path.{_≡_};
 ghost use Prim.Native.Nat.{_<_};
 ghost use lib.ListN.{length};
-ghost use Rattle.rules.specs.Round.{height};
 ghost use Rattle.slopes.specs.Fractions.{as-slope};
-ghost use Rattle.slopes.specs.Fractions as fractions;
-ghost use Rattle.samples.specs.Positions.{Near, at, place, Sampled};
-ghost use Rattle.round.specs.Tops.{top-of, better-of, TopsAsk, Topped};
+ghost use Rattle.samples.specs.Positions.{at, Sampled};
+ghost use Rattle.round.specs.Tops.{slope-by, Scaled, KeysAre, better-of, TopsAsk, Topped};
 
-// The tops so far: their height, the one furthest west with its east, and the one furthest east with its east.
+// more than two easts can differ by
+const SPREAD: i64 = 2000001;
+
+// A sample with its key.
+pub struct Top {
+    pub key: i64,
+    pub number: u32,
+}
+
+// The keys of a sample: the top furthest west is the first with the greatest of the one, the top furthest east the first with the greatest of the other.
+pub struct Keys {
+    pub west: i64,
+    pub east: i64,
+}
+
+// The top furthest west and the one furthest east, each with its east.
 pub struct Tops {
-    pub height: i64,
     pub left: u32,
     pub from: i64,
     pub right: u32,
     pub to: i64,
 }
 
-// North minus K times east, times K's run.
-fn height(p: Position, k: Slope) -> i64
-    requires { ⌜ Near (place p) × fractions.Near (as-slope k) ⌝ }
-    ensures { λ r. ⌜ r ≡ height (as-slope k) (place p) ⌝ }
-{
-    (k.run as i64) * p.north - (k.rise as i64) * p.east
-}
-
-// The tops of one sample.
-fn top_of(e: &[i32], n: &[i32], lower: bool, x: u32, k: Slope) -> Tops
-    requires { ⌜ Sampled (now e) (now n) × ((x < length (now e)) × fractions.Near (as-slope k)) ⌝ }
-    ensures { λ r. ⌜ r ≡ top-of (at (now (e .entry)) (now (n .entry)) lower) (as-slope k) x ⌝ }
+// The keys of sample x: the height less the east, and the height with the east. Rise and run are K's times SPREAD, and so the height is scaled.
+fn keys_of(e: &[i32], n: &[i32], lower: bool, x: u32, rise: i64, run: i64) -> Keys
+    requires { ⌜ Sampled (now e) (now n) × ((x < length (now e)) × Scaled (slope-by rise run)) ⌝ }
+    ensures { λ r. ⌜ KeysAre (slope-by rise run) (at (now (e .entry)) (now (n .entry)) lower x) r ⌝ }
 {
     let p = position_of(e, n, x, lower);
-    let h = height(p, k);
-    Tops {
-        height: h,
-        left: x,
-        from: p.east,
-        right: x,
-        to: p.east,
+    let h = run * p.north - rise * p.east;
+    Keys {
+        west: h - p.east,
+        east: h + p.east,
     }
 }
 
-// The tops t of earlier samples with s, those of one sample more.
-fn better(t: Tops, s: Tops) -> Tops
-    ensures { λ r. ⌜ r ≡ better-of t s ⌝ }
+// The sample of the greater key. Samples of equal keys stand at one position, and the earlier stays.
+fn better(t: Top, key: i64, number: u32) -> Top
+    ensures { λ r. ⌜ r ≡ better-of t key number ⌝ }
 {
-    if t.height < s.height {
-        return s;
-    }
-    if s.height < t.height {
-        return t;
-    }
-    if s.from < t.from {
-        return Tops {
-            height: t.height,
-            left: s.left,
-            from: s.from,
-            right: t.right,
-            to: t.to,
-        };
-    }
-    if t.to < s.to {
-        return Tops {
-            height: t.height,
-            left: t.left,
-            from: t.from,
-            right: s.right,
-            to: s.to,
-        };
-    }
-    t
+    if t.key < key { Top { key, number } } else { t }
 }
 
 // The tops of the whole list.
@@ -80,11 +58,30 @@ pub fn of_list(e: &[i32], n: &[i32], lower: bool, list: &[u32], k: Slope) -> Top
     requires { ⌜ TopsAsk (now e) (now n) (now list) (as-slope k) ⌝ }
     ensures { λ r. ⌜ Topped (at (now (e .entry)) (now (n .entry)) lower) (as-slope k) (now (list .entry)) r ⌝ }
 {
-    let mut t = top_of(e, n, lower, list[0], k);
+    let rise = (k.rise as i64) * SPREAD;
+    let run = (k.run as i64) * SPREAD;
+    let x = list[0];
+    let c = keys_of(e, n, lower, x, rise, run);
+    let mut left = Top {
+        key: c.west,
+        number: x,
+    };
+    let mut right = Top {
+        key: c.east,
+        number: x,
+    };
     let mut i = 1;
     while i < list.len() {
-        t = better(t, top_of(e, n, lower, list[i], k));
+        let x = list[i];
+        let c = keys_of(e, n, lower, x, rise, run);
+        left = better(left, c.west, x);
+        right = better(right, c.east, x);
         i += 1;
     }
-    t
+    Tops {
+        left: left.number,
+        from: east(e, left.number),
+        right: right.number,
+        to: east(e, right.number),
+    }
 }

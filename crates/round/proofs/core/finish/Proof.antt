@@ -54,10 +54,10 @@ module _ (d : tie.After-struct-told) where
   a-is = toZ-ofZ (start .fits .a)
 
   from-is : toZ w64 (ofZ w64 (d .before .before .of-list .result .from)) ≡ d .before .before .of-list .result .from
-  from-is = toZ-ofZ (sfits-of {w = w64} (d .struct-told .given .1 .1 .0 .1))
+  from-is = toZ-ofZ (sfits-of {w = w64} (d .struct-told .given .1 .0 .1))
 
   to-is : toZ w64 (ofZ w64 (d .before .before .of-list .result .to)) ≡ d .before .before .of-list .result .to
-  to-is = toZ-ofZ (sfits-of {w = w64} (d .struct-told .given .1 .1 .1 .1 .0 .1))
+  to-is = toZ-ofZ (sfits-of {w = w64} (d .struct-told .given .1 .1 .1 .0 .1))
 
   one : 1 ≤ length list
   one = let h = start .pre .one in omega (arith, list-long start)

@@ -1,46 +1,38 @@
 -- `round::keep::of_pair` meets its contract: each return is what the tested orders leave of the pair. Assumes nothing.
-use mathlib.Core.Path.{_≡_, refl, sym, ap, ap₂, _∙_, subst}
-use mathlib.Core.Bool.{Bool, cond, not, _||_}
-use mathlib.Core.Logic.{_≢_}
-use Prim.Native.Nat.{ℕ, _^_, _<_}
-use borrow.Author.Needs.{needs, sfits-of}
-use lib.IntN.{ℤ, pos}
-use lib.Signed.{mag, ltZ}
+use mathlib.Core.Path.{_≡_, sym, ap, ap₂, _∙_, subst, subst₂}
+use mathlib.Core.Bool.{Bool, not, _||_}
+use mathlib.Core.List.{List, [], _∷_}
+use mathlib.Core.Logic.{_≢_, ⊎-elim}
+use Prim.Native.Nat.{ℕ}
+use borrow.Author.Needs.{needs}
+use lib.IntN.{ℤ, pos, _-ℤ_}
+use lib.Signed.{ltZ}
 use mir.Syntax.{w64}
 use mir.Val.{toZ, ofZ}
-use mir.Facts.{toZ-ofZ}
+use Rattle.whole.specs.Laws.{≡→0≡, 0≡→≡}
+use Rattle.whole.specs.Solver.{Ex, var, _⊖_, ⊝_}
+use Rattle.whole.specs.Fits.{Leaves, step-fits, word-is, lt-is}
 use Rattle.rules.specs.Streams.{Stream}
-use Rattle.rules.specs.Round.{Slope, pair, east, keeps}
 use Rattle.slopes.specs.Fractions.{as-slope}
-use Rattle.samples.specs.Positions.{Near, at}
+use Rattle.samples.specs.Positions.{Near, at, place}
 use Rattle.samples.specs.Samples.{near-at}
-use Rattle.round.specs.Keeping.{excess, towards, chosen}
-use Rattle.round.proofs.Choosing.{apart, level, slanted-pair, upright-pair}
+use Rattle.round.specs.Keeping.{excess, chosen}
+use Rattle.round.proofs.Choosing.{away, slanted-pair, upright-pair}
+use Rattle.round.proofs.Words.{two-leaves, word-of}
 use Rattle.round.proofs.keep.of_pair.Statement.{statement}
 use Rattle.round.proofs.keep.of_pair.Tie as tie
 
-excess-requires : tie.Need-excess-requires
-excess-requires c κs =
-    let s = c .before .before in
-    let h = s .pre .sampled in (
-      subst Near (sym (c .before .position-of .ensures)) (near-at h (s .args .lower) (s .args .x)),
-      (subst Near (sym (c .position-of2 .ensures)) (near-at h (s .args .lower) (s .args .y)), s .pre .near),
-    )
+-- the four numbers of two positions, and how far east of the first the second stands
+abbrev parts : Stream → Stream → List ℤ
+parts p q = p .east ∷ p .north ∷ q .east ∷ q .north ∷ []
 
--- a number of a position, read from its word
-read : (z : ℤ) {y : ℤ} → mag z < 2 ^ 63 → z ≡ y → toZ w64 (ofZ w64 z) ≡ y
-read z h e = toZ-ofZ (sfits-of {w = w64} h) ∙ e
+abbrev way : Ex
+way = var 2 ⊖ var 0
 
--- what is known where the easts are first compared
-module _ (d : tie.After-struct-told2) where
-  abbrev found : tie.After-excess
-  found = d .before .before .before .before
-
-  abbrev second : tie.After-position-of2
-  second = found .before
-
+-- what is known once both positions are found
+module _ (d : tie.After-position-of2) where
   abbrev first : tie.After-position-of
-  first = second .before
+  first = d .before
 
   abbrev start : tie.Start
   start = first .before
@@ -48,82 +40,66 @@ module _ (d : tie.After-struct-told2) where
   abbrev places : ℕ → Stream
   places = at (start .args .e .now) (start .args .n .now) (start .args .lower)
 
-  abbrev K : Slope
-  K = as-slope (start .args .k)
+  abbrev p : Stream
+  p = places (start .args .x)
 
-  abbrev x : ℕ
-  x = start .args .x
+  abbrev q : Stream
+  q = places (start .args .y)
 
-  abbrev y : ℕ
-  y = start .args .y
+  near : (x : ℕ) → Near (places x)
+  near = near-at (start .pre .sampled) (start .args .lower)
 
-  -- the two easts
-  first-part : first .position-of .result .east ≡ places x .east
-  first-part = ap (λ (s : Stream). s .east) (first .position-of .ensures)
+  leaves : Leaves (parts (place (first .position-of .result)) (place (d .position-of2 .result))) (parts p q) (1000000 ∷ 1000000 ∷ 1000000 ∷ 1000000 ∷ [])
+  leaves =
+      subst₂ (λ (s t : Stream). Leaves (parts s t) (parts p q) (1000000 ∷ 1000000 ∷ 1000000 ∷ 1000000 ∷ []))
+      (sym (first .position-of .ensures)) (sym (d .position-of2 .ensures))
+      (two-leaves (near (start .args .x)) (near (start .args .y)))
 
-  second-part : second .position-of2 .result .east ≡ places y .east
-  second-part = ap (λ (s : Stream). s .east) (second .position-of2 .ensures)
+excess-requires : tie.Need-excess-requires
+excess-requires c κs = (
+  subst Near (sym (first c .position-of .ensures)) (near c (start c .args .x)),
+  (subst Near (sym (c .position-of2 .ensures)) (near c (start c .args .y)), start c .pre .near),
+)
 
-  -- the numbers of the two positions, as words
-  first-east : toZ w64 (ofZ w64 (first .position-of .result .east)) ≡ places x .east
-  first-east =
-      read (first .position-of .result .east) (d .before .before .struct-told .given .0 .1) first-part
+sub-d : tie.Need-sub-d
+sub-d c = step-fits w64 (leaves (c .before .before .before .before .before)) way tt
 
-  second-east : toZ w64 (ofZ w64 (second .position-of2 .result .east)) ≡ places y .east
-  second-east = read (second .position-of2 .result .east) (d .struct-told2 .given .0 .1) second-part
-
-  first-north : toZ w64 (ofZ w64 (first .position-of .result .north)) ≡ places x .north
-  first-north =
-      read (first .position-of .result .north) (d .before .before .struct-told .given .1 .0 .1) (ap (λ (s : Stream). s .north) (first .position-of .ensures))
-
-  second-north : toZ w64 (ofZ w64 (second .position-of2 .result .north)) ≡ places y .north
-  second-north =
-      read (second .position-of2 .result .north) (d .struct-told2 .given .1 .0 .1) (ap (λ (s : Stream). s .north) (second .position-of2 .ensures))
-
-  over-is : toZ w64 (ofZ w64 (found .excess .result)) ≡ excess K (places x) (places y)
-  over-is =
-      read (found .excess .result) (found .excess .ok)
-      (found .excess .ensures ∙ ap₂ (excess K) (first .position-of .ensures) (second .position-of2 .ensures))
-
-  -- the tests
-  rising : ltZ (places x .east) (places y .east)
-      ≡ ltZ (toZ w64 (ofZ w64 (first .position-of .result .east))) (toZ w64 (ofZ w64 (second .position-of2 .result .east)))
-  rising = sym (ap₂ ltZ first-east second-east)
-
-  norths : ltZ (places x .north) (places y .north)
-      ≡ ltZ (toZ w64 (ofZ w64 (first .position-of .result .north))) (toZ w64 (ofZ w64 (second .position-of2 .result .north)))
-  norths = sym (ap₂ ltZ first-north second-north)
-
-  below : ltZ (excess K (places x) (places y)) (pos 0) ≡ ltZ (toZ w64 (ofZ w64 (found .excess .result))) (pos 0)
-  below = ap (λ (z : ℤ). ltZ z (pos 0)) (sym over-is)
-
-  above : ltZ (pos 0) (excess K (places x) (places y)) ≡ ltZ (pos 0) (toZ w64 (ofZ w64 (found .excess .result)))
-  above = ap (ltZ (pos 0)) (sym over-is)
+sub-g : tie.Need-sub-g
+sub-g c = step-fits w64 (leaves (c .before .before .before .before .before .before .before)) (⊝ way) tt
 
 returns : tie.Need-returns
 returns c =
-    let d = c .before .before .before .before .before .before in
-    let west = start d .args .west in
-    let differ : places d (x d) .east ≢ places d (y d) .east =
-    λ e. c .before .before .before .before .before .if1 .taken (ap (ofZ w64) (first-part d ∙ e ∙ sym (second-part d)))
+    let f = c .before .before .before .before .before .before in
+    let d = f .before in
+    let a = start d .args in
+    let l = leaves d in
+    let differ : p d .east ≢ q d .east =
+    λ e. c .before .if1 .taken (ap (ofZ w64) (ap₂ _-ℤ_ (word-is w64 l (var 2) tt) (word-is w64 l (var 0) tt) ∙ ≡→0≡ e))
     in
-    let far : cond (ltZ (places d (x d) .east) (places d (y d) .east)) west (not west) ≡ c .beyond .result =
-    ap (λ (r : Bool). cond r west (not west)) (rising d) ∙ sym (c .beyond .ensures)
+    let seen : Bool → ℤ = λ w. away w (p d .east) (q d .east) in
+    let g-is : toZ w64 (c .if2 .g) ≡ seen (a .west) =
+    ⊎-elim
+    (λ h. ap (toZ w64) (h .1) ∙ word-is w64 l way tt ∙ ap seen (sym (h .0 .taken)))
+    (λ h. ap (toZ w64) (h .1) ∙ word-is w64 l (⊝ way) tt ∙ ap seen (sym (h .0 .left)))
+    (c .if2 .came)
     in
-    slanted-pair (places d) (K d) (x d) (y d) (ltZ (places d (x d) .east) (places d (y d) .east)) west refl
-    (apart (places d (x d) .east) (places d (y d) .east) differ)
-    ∙ ap₂ (λ (f g : Bool). chosen f g (x d) (y d)) (ap₂ (λ (o b : Bool). not o || b) far (below d)) (ap₂ _||_ far (above d))
+    let c-is : toZ w64 (ofZ w64 (f .excess .result)) ≡ excess (as-slope (a .k)) (p d) (q d) =
+    word-of (f .excess .result) (f .excess .ok)
+    ∙ f .excess .ensures
+    ∙ ap₂ (excess (as-slope (a .k))) (first d .position-of .ensures) (d .position-of2 .ensures)
+    in
+    slanted-pair (places d) (as-slope (a .k)) (a .x) (a .y) (a .west) differ
+    ∙ ap₂ (λ (g o : ℤ). chosen (ltZ g (pos 0) || ltZ o (pos 0)) (ltZ (pos 0) g || ltZ (pos 0) o) (a .x) (a .y)) (sym g-is) (sym c-is)
 
 returns-2 : tie.Need-returns-2
 returns-2 c =
-    let d = c .before .before .before .before .before in
-    let equal : places d (x d) .east ≡ places d (y d) .east =
-    sym (first-east d) ∙ ap (toZ w64) (c .before .before .before .before .if1 .left) ∙ second-east d
-    in
-    upright-pair (places d) (K d) (x d) (y d) (level equal) _ (level (sym equal))
-    ∙ ap (λ (b : Bool). chosen (not b) b (x d) (y d)) (norths d)
+    let e = c .before .before .before .before in
+    let d = e .before .before .before .before .before .before in
+    let a = start d .args in
+    let l = leaves d in
+    upright-pair (places d) (as-slope (a .k)) (a .x) (a .y) _
+    (0≡→≡ (p d .east) (q d .east) (sym (word-is w64 l way tt) ∙ ap (toZ w64) (e .if1 .left)))
+    ∙ ap (λ (b : Bool). chosen (not b) b (a .x) (a .y)) (sym (lt-is w64 l (var 1) (var 3) tt tt))
 
 pub of-pair-spec : {M : Type 1} → statement M
-of-pair-spec =
-    tie.close
-    (tie.spec (λ c κs. search needs) (λ c κs. search needs) excess-requires (λ c κs. search needs) returns returns-2)
+of-pair-spec = tie.close (tie.spec (λ c κs. search needs) (λ c κs. search needs) excess-requires sub-d sub-g returns returns-2)

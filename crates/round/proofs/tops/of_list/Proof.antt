@@ -1,53 +1,121 @@
--- `round::tops::of_list` meets its contract: the loop carries the tops of the samples passed. Assumes nothing.
-use mathlib.Core.Path.{sym, ap, _∙_, subst}
-use Prim.Native.Nat.{_-_}
+-- `round::tops::of_list` meets its contract: the loop carries the samples with the greatest keys of those passed. Assumes nothing.
+use mathlib.Core.Path.{_∙_}
+use mathlib.Core.List.{List}
+use Prim.Native.Nat.{ℕ, _-_}
 use native.Mathlib.Omega.{arith}
 use borrow.Author.Needs.{needs}
+use lib.IntN.{ℤ, negℤ}
 use lib.ListN.{length}
+use mir.Syntax.{w64}
+use mir.Val.{toZ}
+use Rattle.whole.specs.Solver.{var}
+use Rattle.whole.specs.Fits.{step-fits}
+use Rattle.rules.specs.Streams.{Stream}
+use Rattle.rules.specs.Round.{Slope}
 use Rattle.slopes.specs.Fractions.{as-slope}
 use Rattle.samples.specs.Positions.{at}
-use Rattle.samples.specs.Samples.{listed-at}
-use Rattle.round.specs.Tops.{better-of}
-use Rattle.round.proofs.Topping.{Topping, topping-first, topping-more, topping-all}
+use Rattle.samples.specs.Samples.{listed-at, near-at}
+use Rattle.round.specs.Tops.{slope-by, key}
+use Rattle.round.proofs.Topping.{Leads, leads-first, leads-more, leads-all, left-greater, right-greater}
+use Rattle.round.proofs.Words.{word-of, slope-leaf, times, scaled-words, scaled-is, scaled-near}
 use Rattle.round.proofs.tops.of_list.Statement.{statement}
 use Rattle.round.proofs.tops.of_list.Tie as tie
 
 abbrev Inv-loop : tie.InvT-loop
-Inv-loop e n lower list k t₀ i₀ t i = Topping (at e n lower) (as-slope k) list i t
+Inv-loop e n lower list rise run x left₀ right₀ i₀ left right i =
+    let k = slope-by (toZ w64 rise) (toZ w64 run) in
+    Leads (λ x. key negℤ k (at e n lower x)) list i left × Leads (λ x. key (λ z. z) k (at e n lower x)) list i right
 
 abbrev μ-loop : tie.MeasureT-loop
-μ-loop e n lower list k t₀ i₀ t i = length list - i
+μ-loop e n lower list rise run x left₀ right₀ i₀ left right i = length list - i
 
-top-of-requires : tie.Need-top-of-requires Inv-loop μ-loop
-top-of-requires c κs =
-    let h = c .before .before .pre in
+cast-rise : tie.Need-cast-rise Inv-loop μ-loop
+cast-rise c = step-fits w64 (slope-leaf (c .before .before .before .pre .near .rise-near)) (var 0) tt
+
+mul-rise : tie.Need-mul-rise Inv-loop μ-loop
+mul-rise c = step-fits w64 (slope-leaf (c .before .before .before .pre .near .rise-near)) times tt
+
+cast-run : tie.Need-cast-run Inv-loop μ-loop
+cast-run c = step-fits w64 (slope-leaf (c .before .before .before .before .before .pre .near .run-near)) (var 0) tt
+
+mul-run : tie.Need-mul-run Inv-loop μ-loop
+mul-run c = step-fits w64 (slope-leaf (c .before .before .before .before .before .pre .near .run-near)) times tt
+
+-- the start, seen from the loop
+abbrev start : tie.At-loop Inv-loop μ-loop → tie.Start Inv-loop μ-loop
+start l = l .before .before .before .before .before .before .before .before .before .before
+
+module _ (s : tie.Start Inv-loop μ-loop) where
+  abbrev places : ℕ → Stream
+  places = at (s .args .e .now) (s .args .n .now) (s .args .lower)
+
+  abbrev K : Slope
+  K = as-slope (s .args .k)
+
+  abbrev list : List ℕ
+  list = s .args .list .now
+
+  -- the key of a sample, as the code has it
+  abbrev key-of : (ℤ → ℤ) → ℕ → ℤ
+  key-of side x = key side (scaled-words K) (places x)
+
+keys-of-requires : tie.Need-keys-of-requires Inv-loop μ-loop
+keys-of-requires c κs =
+    let h = c .before .before .before .before .before .before .pre in
     let many = h .some in
-    (h .sampled, (listed-at (h .listed) 0 (omega arith), h .near))
+    (h .sampled, (listed-at (h .listed) 0 (omega arith), scaled-near (h .near)))
 
 loop-holds : tie.Need-loop-holds Inv-loop μ-loop
 loop-holds c =
-    let s = c .before .before .before in
-    let a = s .args in
-    subst (Topping (at (a .e .now) (a .n .now) (a .lower)) (as-slope (a .k)) (a .list .now) 1) (sym (c .top-of .ensures))
-    (topping-first (at (a .e .now) (a .n .now) (a .lower)) (as-slope (a .k)) (a .list .now) (s .pre .some))
+    let d = c .before .before in
+    let s = d .before .before .before .before .before .before .before in
+    let r = d .keys-of .result in
+    let k = d .keys-of .ensures in
+    let many = s .pre .some in (
+      leads-first (key-of s negℤ) (list s) many (word-of (r .west) (c .before .struct-told3 .given .0 .1) ∙ k .west-is),
+      leads-first (key-of s (λ z. z)) (list s) many (word-of (r .east) (c .struct-told4 .given .1 .0 .1) ∙ k .east-is),
+    )
 
-top-of-requires-2 : tie.Need-top-of-requires-2 Inv-loop μ-loop
-top-of-requires-2 c κs =
-    let h = c .before .before .before .before .before .before .pre in
-    (h .sampled, (listed-at (h .listed) (c .before .before .loop .i) (c .before .loop-test .taken), h .near))
+keys-of-requires-2 : tie.Need-keys-of-requires-2 Inv-loop μ-loop
+keys-of-requires-2 c κs =
+    let l = c .before .before in
+    let h = start l .pre in
+    (h .sampled, (listed-at (h .listed) (l .loop .i) (c .before .loop-test .taken), scaled-near (h .near)))
 
 loop-again : tie.Need-loop-again Inv-loop μ-loop
 loop-again c =
-    let a = c .before .before .before .before .before .before .before .before .args in
-    let l = c .before .before .before .before .loop in
-    let places = at (a .e .now) (a .n .now) (a .lower) in
-    subst (Topping places (as-slope (a .k)) (a .list .now) _) (sym (c .better .ensures ∙ ap (better-of (l .t)) (c .before .top-of2 .ensures)))
-    (topping-more places (as-slope (a .k)) (a .list .now) (l .i) (omega arith) (l .t) (l .inv))
+    let d = c .before .before .before .before in
+    let l = d .before .before .before in
+    let s = start l in
+    let r = d .keys-of2 .result in
+    let k = d .keys-of2 .ensures in
+    let i = l .loop .i in
+    let h = d .before .before .loop-test .taken in (
+      leads-more (key-of s negℤ) (list s) i h (l .loop .inv .0)
+          (word-of (r .west) (c .before .before .before .struct-told5 .given .0 .1) ∙ k .west-is) (c .before .before .better .ensures),
+      leads-more (key-of s (λ z. z)) (list s) i h (l .loop .inv .1)
+          (word-of (r .east) (c .before .struct-told6 .given .1 .0 .1) ∙ k .east-is) (c .better2 .ensures),
+    )
+
+east-requires : tie.Need-east-requires Inv-loop μ-loop
+east-requires c κs = let l = c .before in start l .pre .listed .below (l .loop .left .number) (l .loop .inv .0 .given)
+
+east-requires-2 : tie.Need-east-requires-2 Inv-loop μ-loop
+east-requires-2 c κs = let l = c .before .before in start l .pre .listed .below (l .loop .right .number) (l .loop .inv .1 .given)
 
 returns : tie.Need-returns Inv-loop μ-loop
 returns c =
-    let a = c .before .before .before .before .before .args in
-    topping-all (at (a .e .now) (a .n .now) (a .lower)) (as-slope (a .k)) (a .list .now) (c .loop-test .left) (c .before .loop .inv)
+    let l = c .before .before .before in
+    let s = start l in
+    let near = near-at (s .pre .sampled) (s .args .lower) in
+    let scaled = scaled-is (s .pre .near) in
+    let end = c .before .before .loop-test .left in
+    record {
+      left-is = leads-all (key-of s negℤ) (list s) (left-greater (places s) near (K s) scaled) end (l .loop .inv .0);
+      right-is = leads-all (key-of s (λ z. z)) (list s) (right-greater (places s) near (K s) scaled) end (l .loop .inv .1);
+      from-is = word-of (c .before .east .result) (c .before .east .ok) ∙ c .before .east .ensures;
+      to-is = word-of (c .east2 .result) (c .east2 .ok) ∙ c .east2 .ensures;
+    }
 
 pub of-list-spec : {M : Type 1} → statement M
 of-list-spec =
@@ -55,14 +123,21 @@ of-list-spec =
     (tie.spec
     Inv-loop
     μ-loop
+    cast-rise
+    mul-rise
+    cast-run
+    mul-run
     (λ c. omega arith)
-    top-of-requires
+    keys-of-requires
     loop-holds
     (λ c. search needs)
     (λ c. search needs)
-    top-of-requires-2
+    keys-of-requires-2
     (λ c κs. search needs)
-    (λ c. search needs)
+    (λ c κs. search needs)
+    (λ c. let g = start (c .before .before .before .before .before .before .before) .good in omega arith)
     (λ c. search needs)
     loop-again
+    east-requires
+    east-requires-2
     returns)
