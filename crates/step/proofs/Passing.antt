@@ -1,17 +1,18 @@
 -- What a pass keeps: those of the items read so far that pass the test stand at `to` and after it, and what lies before is as it was.
 -- Assumes nothing.
 use mathlib.Core.Path.{_≡_, refl, sym, ap, ap₂, _∙_}
-use mathlib.Core.Bool.{Bool, true, false}
-use mathlib.Core.List.{List, [], _∷_, _++_, append-nil}
+use mathlib.Core.Bool.{Bool}
+use mathlib.Core.List.{List, [], _∷_, _++_}
 use Prim.Native.Nat.{ℕ, _+_, _≤_, _<_}
-use native.Mathlib.Nat.{le-refl, add-zero, add-comm}
+use native.Mathlib.Nat.{le-refl, add-comm}
 use native.Mathlib.Numerals.{add-one}
 use native.Mathlib.Omega.{arith}
 use mir.Val.{boolByte}
 use lib.ListN.{length, getD, take, drop, set, length-set, length-drop}
-use lib.Seq.{take-suc, take-all, take-suc-set, take-set-le, take-take, take-add, drop-cons, drop-set-add, getD-take, getD-set-same}
+use lib.Seq.{take-all, take-set-le, take-take, take-add, drop-cons, drop-set-add, getD-take, getD-set-same}
 use Rattle.rules.specs.Lists.{those, consIf}
 use Rattle.ranks.specs.Counts.{those-append}
+use Rattle.ranks.specs.Kept.{first-more, stored}
 use Rattle.samples.specs.Scans.{byte-most}
 use Rattle.step.specs.Lists.{Passed, Beyond, Listing}
 
@@ -38,18 +39,11 @@ module _ (test : ℕ → Bool) (src w : List ℕ) (to : ℕ) where
   unfolding those
   passing-part now i k x b e at h room p =
       ap (take (k + boolByte b)) (drop-set-add to now k x)
-      ∙ go b
+      ∙ stored (drop to now) k x b (omega (arith, length-drop to now))
       ∙ ap₂ (λ (l : List ℕ) (c : Bool). l ++ consIf c x []) p e
       ∙ sym (those-append test (take i src) (x ∷ []))
       ∙ ap (λ (y : ℕ). those test (take i src ++ (y ∷ []))) at
-      ∙ ap (those test) (sym (take-suc src i 0 h) ∙ ap (λ (n : ℕ). take n src) (sym (add-one i)))
-    where
-      behind : List ℕ
-      behind = drop to now
-
-      go : (b : Bool) → take (k + boolByte b) (set behind k x) ≡ take k behind ++ consIf b x []
-      go true = ap (λ (n : ℕ). take n (set behind k x)) (add-one k) ∙ take-suc-set behind k x (omega (arith, length-drop to now))
-      go false = ap (λ (n : ℕ). take n (set behind k x)) (add-zero k) ∙ take-set-le k behind k x (le-refl k) ∙ sym (append-nil (take k behind))
+      ∙ ap (those test) (sym (first-more 0 src i h))
 
   pub passing-more : {now : List ℕ} {i k x : ℕ} (b : Bool)
       → b ≡ test x

@@ -40,7 +40,7 @@ cut-spec =
     (λ c. search needs)
     (λ c. search needs)
     (λ c. search needs)
-    (λ c κs. search needs)
+    (λ pick κs. search needs)
     (λ c κs. search needs)
     cast-result
     (λ c. search needs)
