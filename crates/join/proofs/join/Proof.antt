@@ -55,21 +55,22 @@ returns-4 c =
 
 write-join-requires : tie.Need-write-join-requires
 write-join-requires c κs =
-    let at = c .before .before .before .before .before in
-    let a = at .before .before .before .before .before .before .before .args in (
-      two-sound (sound (now (a .east)) (now (a .north)) (first (at .before .before .before))) (sound (now (a .east2)) (now (a .north2)) (second at))
-          (c .before .before .before .before .if1 .left),
-      (omega arith),
-    )
+    let passed = c .before .before .before in
+    let at = passed .before .before in
+    let a = at .before .before .before .before .before .before .before .args in
+    let one = sound (now (a .east)) (now (a .north)) (first (at .before .before .before)) in
+    let two = sound (now (a .east2)) (now (a .north2)) (second at) in
+    (two-sound one two (passed .before .if1 .left), omega arith)
 
 returns-5 : tie.Need-returns-5
 returns-5 c =
     let w = c .before .before .before .before .write-join in
-    let at = c .before .before .before .before .before .before .before .before .before .before in
+    let passed = c .before .before .before .before .before .before .before .before in
+    let at = passed .before .before in
     let a = at .before .before .before .before .before .before .before .args in
     subst (λ (answer : Answer (List Stream)). Outcome answer (w .result) (now (a .out-east)) (w .last .1 .1 .1 .1 .0) (now (a .out-north))
     (w .last .1 .1 .1 .1 .1 .0) (now (a .scratch)) (w .last .1 .1 .1 .1 .1 .1 .0))
-    (sym (all-pass (now (a .east)) (now (a .north)) (now (a .east2)) (now (a .north2)) (now (a .out-east)) (now (a .out-north)) (now (a .scratch)) (first (at .before .before .before)) (second at) (c .before .before .before .before .before .before .before .before .before .if1 .left) (c .before .before .before .before .before .before .before .before .if2 .left)))
+    (sym (all-pass (now (a .east)) (now (a .north)) (now (a .east2)) (now (a .north2)) (now (a .out-east)) (now (a .out-north)) (now (a .scratch)) (first (at .before .before .before)) (second at) (passed .before .if1 .left) (passed .if2 .left)))
     (w .ensures)
 
 pub join-spec : {M : Type 1} → statement M

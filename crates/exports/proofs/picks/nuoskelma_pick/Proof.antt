@@ -10,7 +10,7 @@ use Rattle.exports.proofs.picks.nuoskelma_pick.Tie as tie
 returns : tie.Need-returns
 returns c =
     let said = c .before .before .before .before .before .pick .ensures in
-    (rw (← said .answer, c .before .value .given .1) (search needs), said .scratch)
+    (search needs ∙ ap picked-face (ap answer-of (sym (c .before .value .given .1)) ∙ said .answer), said .scratch)
 
 returns-2 : tie.Need-returns-2
 returns-2 c =

@@ -38,11 +38,10 @@ strictly-right-requires : tie.Need-strictly-right-requires
 strictly-right-requires c κs =
     let at = c .before .before .before .before .before in
     let a = at .args in
-    let p = at .pre in (
-      subst Near (sym (c .listed2 .ensures)) (corner-near (p .0) (a .up) (getD (now (a .w)) (a .top - 2) 0)),
-      subst Near (sym (c .before .before .listed .ensures)) (corner-near (p .0) (a .up) (getD (now (a .w)) (a .top - 1) 0)),
-      p .2,
-    )
+    let pre = at .pre in
+    let p = subst Near (sym (c .listed2 .ensures)) (corner-near (pre .0) (a .up) (getD (now (a .w)) (a .top - 2) 0)) in
+    let q = subst Near (sym (c .before .before .listed .ensures)) (corner-near (pre .0) (a .up) (getD (now (a .w)) (a .top - 1) 0)) in
+    (p, q, pre .2)
 
 returns-3 : tie.Need-returns-3
 returns-3 c =
