@@ -28,7 +28,7 @@ pub type Contestant<'a> = Box<dyn FnMut(usize) + 'a>;
 /// The least time that each contestant takes for an input, in seconds: a turn goes over all inputs. The contestants take turns, so that the machine's other
 /// work, which leaves less of the caches, falls on all alike; of several turns the least is the one that it lengthened least.
 pub fn contest(inputs: usize, mut contestants: Vec<Contestant>) -> Vec<f64> {
-    const TURNS: usize = 5;
+    const TURNS: usize = 9;
     const LONG: f64 = 0.25;
     let mut least = vec![f64::INFINITY; contestants.len()];
     let begin = worked();
