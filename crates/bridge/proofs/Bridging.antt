@@ -11,7 +11,7 @@ use lib.ListN.{length, take, length-take, length-map}
 use lib.Seq.{length-take-le}
 use Rattle.rules.specs.Streams.{Stream}
 use Rattle.rules.specs.Chain.{Of}
-use Rattle.rules.specs.Bridge.{Bridge, ends, bridge, spans}
+use Rattle.rules.specs.Bridge.{Bridge, ends, spans}
 use Rattle.outline.specs.Bridges.{BridgeOver, bridge-is, bridge-unique}
 use Rattle.rounds.specs.Items.{first-of, kept-in}
 use Rattle.rounds.specs.Pairs.{here}

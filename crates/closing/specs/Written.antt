@@ -10,7 +10,6 @@ use borrow.Author.Tests.{lt-ltb, le-ltb}
 use Rattle.rules.specs.Lists.{written, zeros}
 use Rattle.rules.specs.Streams.{Stream}
 use Rattle.rules.specs.Refusals.{Answer, refused, done}
-use Rattle.rules.specs.Entries.{easts, norths}
 use Rattle.stack.specs.Places.{listed, length-listed, map-listed}
 use Rattle.closing.specs.declared.Ringed.{Ringed}
 use Rattle.closing.specs.declared.Ringed.the-variants as ringed

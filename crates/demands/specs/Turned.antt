@@ -1,22 +1,19 @@
 -- Turning about, over the promise of the entry: turned about twice, wherever neither step is refused, a ring is itself. A call is any that the
 -- entry's own promise allows. Assumes nothing.
-use mathlib.Core.Path.{_≡_, refl, sym, ap, ap₂, _∙_}
+use mathlib.Core.Path.{_≡_, sym, ap, ap₂, _∙_}
 use mathlib.Core.Bool.{true}
 use mathlib.Core.List.{List, [], _∷_, _++_}
 use Prim.Native.Nat.{ℕ}
-use native.Mathlib.Omega.{arith}
 use lib.IntN.{ℤ}
-use lib.ListN.{length, take, drop, length-map}
-use lib.Seq.{take-at}
+use lib.ListN.{length, take, length-map}
 use contract.Lifetimes.{Lfts}
 use denote.Ref.{now}
 use denote.Triple.Clauses.{AtExit}
 use borrow.Fn.Kinds.{Dens, endedOf}
 use borrow.Author.Tests.{eqb-true, not-false}
-use Rattle.rules.specs.Lists.{written}
 use Rattle.rules.specs.Streams.{Stream, streams}
 use Rattle.rules.specs.Use.{envelope, turn-about}
-use Rattle.rules.specs.Refusals.{Answer, refused, done, output-after, ring-tests, not-envelope}
+use Rattle.rules.specs.Refusals.{Answer, done, output-after, ring-tests, not-envelope}
 use Rattle.rules.specs.Entries.{easts, norths, ring-short, turn-answer}
 use Rattle.rings.specs.Turning.{turn-twice}
 use Rattle.samples.specs.Samples.{streams-length, streams-easts, streams-norths}

@@ -3,7 +3,7 @@ use hand::Edge;
 use hand::Hand;
 use hand::Made;
 ghost use mathlib.Core.Path.{_≡_};
-ghost use Rattle.rules.specs.Entries.{hand-answer, hand-step-answer, hand-after};
+ghost use Rattle.rules.specs.Entries.{hand-answer, hand-step-answer};
 ghost use Rattle.exports.specs.Hands.{hand-at, made-face, stepped-face};
 
 #[repr(C)]

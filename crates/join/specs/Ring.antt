@@ -2,7 +2,7 @@
 -- both rings. Assumes nothing.
 use mathlib.Core.Path.{_≡_, refl, sym, ap, _∙_, subst}
 use mathlib.Core.Logic.{_⊎_, inl, inr}
-use mathlib.Core.Bool.{Bool, true, false}
+use mathlib.Core.Bool.{true, false}
 use mathlib.Core.List.{List, [], _++_}
 use Prim.Native.Nat.{ℕ, zero, suc, _+_, _-_, _≤_, _<_}
 use native.Mathlib.Decide.{decLt}
@@ -12,7 +12,7 @@ use lib.ListN.{length, take, getD, List·getD-append, length-append}
 use lib.Seq.{length-take-le, getD-take, getD-append-add}
 use borrow.Rule.Slice.PartMut.{putMid, postOf}
 use Rattle.rules.specs.Streams.{Stream, streams, sample, mirrored}
-use Rattle.rules.specs.Chain.{UpperChain, empty, starts}
+use Rattle.rules.specs.Chain.{UpperChain, empty}
 use Rattle.rules.specs.Ring.{closed, ring}
 use Rattle.rules.specs.Use.{join}
 use Rattle.stack.specs.Places.{listed, listed-alike}

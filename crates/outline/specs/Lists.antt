@@ -8,7 +8,7 @@ use mathlib.Core.List.{List, [], _∷_, map, List·Memᴰ, List·Memᴰ·head, L
 use Prim.Native.Nat.{ℕ, zero, suc, _+_, _≤_, _<_}
 use native.Mathlib.Omega.{arith}
 use lib.IntN.{ℤ}
-use lib.Signed.{_≤ℤ_, _<ℤ_, leZ, ltZ, ≤ℤ-refl}
+use lib.Signed.{_≤ℤ_, _<ℤ_, ltZ, ≤ℤ-refl}
 use lib.ListN.{length, getD}
 use Rattle.whole.specs.Laws.{<ℤ-trans, lt-test, nlt-test, eq-test, test-lt, test-nlt, test-eq}
 use Rattle.rules.specs.Lists.{consIf, those, some-of, all-of, first-place, best-from, best, alike}

@@ -13,7 +13,7 @@ use Rattle.rules.specs.Streams.{Stream, streams, most, beyond}
 use Rattle.rules.specs.Ring.{ring}
 use Rattle.rules.specs.Refusals.{Answer, refused, done, output-after}
 use Rattle.rules.specs.Entries.{easts, norths, ring-answer, counted}
-use Rattle.rules.specs.Program.{most-lines, samples, ring-of-text, printed, program}
+use Rattle.rules.specs.Program.{most-lines, samples, ring-of-text, printed}
 use Rattle.rounds.specs.Steps.{no-step-without-bridge}
 use Rattle.samples.specs.Samples.{streams-length}
 use Rattle.text.specs.Meaning as text

@@ -4,10 +4,10 @@ use mathlib.Core.Path.{_≡_, refl, sym, subst}
 use mathlib.Core.Logic.{_⊎_, inl, inr}
 use mathlib.Core.Bool.{Bool, true, false, cond, not}
 use mathlib.Core.List.{List, [], _∷_, _++_, List·Memᴰ, List·Memᴰ·head, List·Memᴰ·not-nil, List·Memᴰ·append-cases, Memᴰ·append-left, Memᴰ·append-right, List·Memᴰ·eq-of-singleton, List·Memᴰ·cases-cons}
-use Prim.Native.Nat.{ℕ, _+_, _≤_}
+use Prim.Native.Nat.{ℕ, _+_}
 use native.Mathlib.Omega.{arith}
 use lib.Dec.{T, T-not, not-T}
-use Rattle.ranks.specs.Counts.{bit, bit-le, bit-yes, count, count-append, count-cons, count-nothing, SameItems}
+use Rattle.ranks.specs.Counts.{bit-le, bit-yes, count, count-append, count-nothing, SameItems}
 use Rattle.ranks.specs.Ranks.{OrderOn, HasRank, under, upto, not-not, twice}
 
 module _ {A : Type 0} (le : A → A → Bool) where

@@ -3,7 +3,7 @@
 use mathlib.Core.Path.{_≡_, refl, sym, ap, ap₂, _∙_, subst, subst⁻¹}
 use mathlib.Core.Logic.{_⊎_, inl, inr}
 use mathlib.Core.Bool.{true}
-use mathlib.Core.List.{List, [], _∷_, _++_, map, append-nil, List·Memᴰ, List·Memᴰ·head, List·Memᴰ·tail, Memᴰ·of-map}
+use mathlib.Core.List.{List, [], _∷_, map, append-nil, List·Memᴰ, List·Memᴰ·head, List·Memᴰ·tail, Memᴰ·of-map}
 use Prim.Native.Nat.{ℕ, zero, suc, _+_, _-_, _≤_, _<_}
 use native.Mathlib.Decide.{decLt}
 use native.Mathlib.Omega.{arith}
@@ -19,7 +19,7 @@ use Rattle.outline.specs.Chains.{upper-is, upper-corners, lower-corners}
 use Rattle.samples.specs.Positions.{Near}
 use Rattle.samples.specs.Samples.{sample-near, streams-length}
 use Rattle.stack.specs.Places.{listed, length-listed, listed-alike}
-use Rattle.walk.specs.Both.{Corners, both, count, Stand}
+use Rattle.walk.specs.Both.{Corners, both, count}
 use Rattle.closing.specs.Both.{Both, upper-at, lower-at}
 use Rattle.samples.specs.Tests.{tested-of, sample-tests, passed-tests}
 use Rattle.samples.specs.declared.tests.Tested.the-variants.{Passed}

@@ -11,7 +11,7 @@ use lib.ListN.{length, getD, take, drop, set, length-set, drop-of-length-le}
 use lib.Seq.{getD-drop, drop-cons, drop-drop, drop-set-lt}
 use Rattle.rules.specs.Lists.{consIf}
 use Rattle.rules.specs.Streams.{Stream}
-use Rattle.rules.specs.Round.{Tops, pair, odd, paired, keeps, keep}
+use Rattle.rules.specs.Round.{Tops, pair, paired, keeps, keep}
 use Rattle.ranks.specs.Kept.{stored}
 use Rattle.samples.specs.Scans.{byte-most}
 use Rattle.round.specs.Keeping.{chosen, KeptFront}

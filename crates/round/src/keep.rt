@@ -2,14 +2,12 @@
 use samples::position::Position;
 use samples::position::position_of;
 use slopes::Slope;
-ghost use mathlib.Core.List.{_∷_, []};
 ghost use mathlib.Core.Path.{_≡_};
 ghost use Prim.Native.Nat.{_<_};
-ghost use lib.ListN.{length};
 ghost use Rattle.rules.specs.Round.{pair, keeps};
 ghost use Rattle.slopes.specs.Fractions.{as-slope};
 ghost use Rattle.slopes.specs.Fractions as fractions;
-ghost use Rattle.samples.specs.Positions.{Near, at, place, Sampled};
+ghost use Rattle.samples.specs.Positions.{Near, at, place};
 ghost use Rattle.round.specs.Keeping.{excess, towards, chosen, PairAsks, KeepAsks, KeptFront};
 
 // Which of a pair are kept.

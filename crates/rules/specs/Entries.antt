@@ -20,7 +20,7 @@ use Rattle.rules.specs.Round.{Said, found, kept, round}
 use Rattle.rules.specs.Use.{envelope, HandAt, hand-for, next-place, moved-on, strongest, strongest-place, covers, join, turn-about}
 use Rattle.rules.specs.Door.{Readings, taken, bad, bad-float, readings}
 use Rattle.rules.specs.Record.{version, said-length, corners-at}
-use Rattle.rules.specs.Refusals.{Answer, refused, done, Test, test, unless, lengths-differ, too-many, part-beyond, single-beyond, scratch-short, output-short, ring-tests, not-envelope, output-after, scratch-after}
+use Rattle.rules.specs.Refusals.{Answer, refused, done, Test, test, unless, lengths-differ, too-many, part-beyond, single-beyond, scratch-short, output-short, ring-tests, not-envelope}
 
 abbrev pub is-none : {A : Type 0} → Option A → Bool
 is-none none = true

@@ -3,7 +3,7 @@
 -- Assumes nothing.
 use mathlib.Core.Path.{_≡_, refl}
 use mathlib.Core.Bool.{Bool, true, false}
-use mathlib.Core.Option.{Option, none, some}
+use mathlib.Core.Option.{some}
 use mathlib.Core.List.{List, [], _∷_, _++_, map}
 use Prim.Native.Nat.{ℕ}
 use lib.IntN.{ℤ, pos, negsuc}
@@ -14,11 +14,11 @@ use Rattle.rules.specs.Chain.{leftmost, rightmost, left-end, right-end, 
 use Rattle.rules.specs.Ring.{closed, ring}
 use Rattle.rules.specs.Picker.{ranked, rank}
 use Rattle.rules.specs.Step.{cut, left-list, right-list, first-list, cut-bridge, steps, chain-by-steps}
-use Rattle.rules.specs.Bridge.{Bridge, ends, edge-over, bridge, spans, reported}
-use Rattle.rules.specs.Round.{Slope, Said, found, kept, slope-le, height, middle-slope, paired, slopes, keep, left-top, right-top, round-with, round, rounds}
+use Rattle.rules.specs.Bridge.{ends, edge-over, bridge, spans, reported}
+use Rattle.rules.specs.Round.{Slope, Said, found, kept, slope-le, height, middle-slope, paired, slopes, keep, left-top, right-top, round-with, round}
 use Rattle.rules.specs.Use.{envelope, set-on, strongest, strongest-place, inside, covers, join, turn-about}
 use Rattle.rules.specs.Refusals.{Answer, refused, done}
-use Rattle.rules.specs.Entries.{Strongest, bridge-answer, round-answer, strongest-answer, cover-answer}
+use Rattle.rules.specs.Entries.{bridge-answer, round-answer, strongest-answer, cover-answer}
 use Rattle.rules.specs.Program.{decimal, unsigned, number, cut-at, line, text, samples, digits, printed-natural, printed-whole, printed-corners, printed, program}
 
 -- ---- input A, and enough scratch for it

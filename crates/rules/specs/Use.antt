@@ -5,10 +5,10 @@ use mathlib.Core.List.{List, [], _∷_, _++_, map}
 use Prim.Native.Nat.{ℕ, zero, suc, _+_}
 use lib.IntN.{ℤ, pos, _+ℤ_, _*ℤ_}
 use lib.Signed.{leZ, ltZ}
-use lib.Dec.{leb, ltb, eqb}
+use lib.Dec.{leb, eqb}
 use lib.ListN.{length}
-use Rattle.rules.specs.Lists.{alike, best-from, first-place, all-of}
-use Rattle.rules.specs.Streams.{Stream, stream, same, turned, side, eqZ}
+use Rattle.rules.specs.Lists.{alike, best-from, first-place}
+use Rattle.rules.specs.Streams.{Stream, same, turned, side, eqZ}
 use Rattle.rules.specs.Ring.{ring}
 
 unfoldable pub envelope : List Stream → Bool

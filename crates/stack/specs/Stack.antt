@@ -4,7 +4,6 @@
 use mathlib.Core.Path.{_≡_, refl, sym, ap, ap₂, _∙_, subst}
 use mathlib.Core.Logic.{_⊎_, inl, inr, ⊎-elim}
 use mathlib.Core.Bool.{Bool, true, false, true≢false}
-use mathlib.Core.List.{List, []}
 use Prim.Native.Nat.{ℕ, zero, suc, _-_, _≤_, _<_}
 use native.Mathlib.Nat.{eq-or-lt-of-le}
 use native.Mathlib.Decide.{le-ind}
@@ -14,7 +13,7 @@ use lib.Signed.{_≤ℤ_, _<ℤ_, ltZ, ≤ℤ-refl, <ℤ-≤ℤ-trans, clashℤ}
 use Rattle.whole.specs.Linear.{order, negation}
 use Rattle.whole.specs.Laws.{≤ℤ-of-≡, <ℤ-trans, <ℤ→≤ℤ, test-lt, test-nlt}
 use Rattle.rules.specs.Streams.{Stream, side}
-use Rattle.rules.specs.Chain.{Samples, Of, Turn, UpperChain, empty}
+use Rattle.rules.specs.Chain.{Samples, Turn, UpperChain, empty}
 use Rattle.outline.specs.Sides.{side-crossed, below-at-second}
 use Rattle.outline.specs.Under.{Under, on-self, on-inside, on-trans, under-between, under-at-east}
 use Rattle.outline.specs.Chains.{same-outline}

@@ -1,14 +1,13 @@
 -- The cut: what is picked among the keys of the easts is the east of that rank.
 -- Assumes nothing.
 use mathlib.Core.Path.{_≡_, sym, ap, _∙_, subst}
-use mathlib.Core.List.{List, map, map-map, List·Memᴰ, Memᴰ·of-map}
-use Prim.Native.Nat.{ℕ, _+_, _-_, _*_, _^_, _≤_, _<_}
-use native.Mathlib.Nat.{le-refl}
+use mathlib.Core.List.{List, map, map-map, Memᴰ·of-map}
+use Prim.Native.Nat.{ℕ, _+_, _-_, _^_, _<_}
 use native.Mathlib.Omega.{arith}
 use borrow.Rule.Slice.PartMut.{midOf}
 use lib.IntN.{ℤ}
 use lib.Signed.{mag}
-use lib.ListN.{length, take, drop, length-map, length-drop}
+use lib.ListN.{length, take, drop, length-map}
 use lib.Seq.{paste, length-paste, length-take-le, take-take, take-all}
 use mir.Syntax.{w32}
 use Rattle.whole.specs.Solver.{var}

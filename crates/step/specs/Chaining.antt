@@ -1,19 +1,18 @@
 -- A list of sample numbers from its left end p to its right end q, of which a chain is made: by a step, if the ends stand at two positions, and the two
 -- lists of that step are such lists again. The chain of the list is that of its left list, then that of its right list.
 -- Assumes nothing.
-use mathlib.Core.Path.{_≡_, refl, sym, ap, ap₂, _∙_, subst, subst₂}
+use mathlib.Core.Path.{_≡_, sym, ap, ap₂, _∙_, subst, subst₂}
 use mathlib.Core.Logic.{_≢_}
-use mathlib.Core.Bool.{Bool, true, false}
+use mathlib.Core.Bool.{true, false}
 use mathlib.Core.List.{List, [], _∷_, _++_, map, map-append}
 use Prim.Native.Nat.{ℕ, _-_, _/_, _≤_, _<_}
 use native.Mathlib.Omega.{arith}
-use lib.IntN.{ℤ}
 use lib.Signed.{ltZ}
 use lib.ListN.{length, length-map}
 use Rattle.rules.specs.Lists.{those}
-use Rattle.rules.specs.Streams.{Stream, streams, sample, mirrored}
-use Rattle.rules.specs.Chain.{Of, LeftEnd, RightEnd, upper, lowest}
-use Rattle.rules.specs.Bridge.{Bridge, ends}
+use Rattle.rules.specs.Streams.{Stream, sample}
+use Rattle.rules.specs.Chain.{Of, LeftEnd, RightEnd, upper}
+use Rattle.rules.specs.Bridge.{ends}
 use Rattle.rules.specs.Step.{cut, left-list, right-list}
 use Rattle.outline.specs.Bridges.{BridgeOver}
 use Rattle.outline.specs.Prefix.{step-chain, left-list-alone, right-list-alone}

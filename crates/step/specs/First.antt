@@ -1,23 +1,22 @@
 -- The first list: from the ends of all samples of a side, each by the lowest number at its position, it is a list of which a chain is made, and its chain is
 -- that of all the samples.
 -- Assumes nothing.
-use mathlib.Core.Path.{_≡_, refl, sym, ap, _∙_, subst, subst₂, fun-ext}
-use mathlib.Core.Bool.{Bool, true, false, _&&_}
-use mathlib.Core.List.{List, [], _∷_, map}
+use mathlib.Core.Path.{_≡_, sym, ap, _∙_, subst, subst₂, fun-ext}
+use mathlib.Core.Bool.{Bool, true, false}
+use mathlib.Core.List.{List, _∷_, map}
 use Prim.Native.Nat.{ℕ, zero, suc, _≤_}
 use native.Mathlib.Omega.{arith}
 use lib.IntN.{ℤ, pos}
-use lib.Signed.{ltZ}
 use lib.ListN.{length, drop, length-map, List·getD-map}
 use Rattle.rules.specs.Lists.{those}
 use Rattle.rules.specs.Streams.{Stream, stream, streams, sample, mirrored}
-use Rattle.rules.specs.Chain.{Of, LeftEnd, RightEnd, upper, lowest}
+use Rattle.rules.specs.Chain.{Of, RightEnd, upper}
 use Rattle.rules.specs.Step.{first-list}
 use Rattle.outline.specs.Prefix.{one-corner, first-list-chain}
 use Rattle.outline.specs.Steps.{Ready, first-list-ready}
 use Rattle.rounds.specs.Steps.{first-list-map}
 use Rattle.rounds.specs.WholeList.{numbers, numbers-samples}
-use Rattle.samples.specs.Positions.{at, east-of}
+use Rattle.samples.specs.Positions.{at}
 use Rattle.samples.specs.Samples.{streams-length, sample-at, samples-at}
 use Rattle.step.specs.Lists.{between, first-numbers}
 use Rattle.step.specs.Ends.{EndOf, nearest, nearest-is}

@@ -8,7 +8,7 @@ ghost use lib.ListN.{length, take};
 ghost use lib.Seq.{paste};
 ghost use Rattle.picker.specs.Keys.{key-of};
 ghost use Rattle.rounds.specs.WholeList.{numbers};
-ghost use Rattle.samples.specs.Positions.{Listed, east-of};
+ghost use Rattle.samples.specs.Positions.{east-of};
 ghost use Rattle.step.specs.Lists.{between, past, first-numbers, beyond-numbers, FirstAsks, PassAsks, BeyondAsks, EastsAsk, Passed, Beyond, Listing};
 
 // x lies strictly between two easts.

@@ -1,18 +1,18 @@
 -- What is printed can be read again: the lines of samples whose parts are within the limit are good text, and give these samples.
 -- Assumes nothing.
 use mathlib.Core.Path.{_≡_, refl, sym, ap, _∙_}
-use mathlib.Core.Bool.{Bool, true, false, cond, not, _&&_, _||_, true≢false}
-use mathlib.Core.Option.{Option, none, some}
+use mathlib.Core.Bool.{Bool, true, false, cond, _&&_, _||_, true≢false}
+use mathlib.Core.Option.{some}
 use mathlib.Core.List.{List, [], _∷_, _++_}
-use Prim.Native.Nat.{ℕ, zero, suc, _+_, _-_, _*_, _/_, _%_, _^_, _≤_, _<_}
+use Prim.Native.Nat.{ℕ, zero, suc, _+_, _-_, _/_, _%_, _^_, _≤_, _<_}
 use native.Mathlib.Nat.{pow-suc}
 use native.Mathlib.Omega.{arith}
 use borrow.Author.Tests.{ltb-true, ltb-false, leb-true, lt-ltb, eq-eqb, ne-eqb}
 use lib.Dec.{leb, ltb, eqb}
 use lib.IntN.{ℤ, pos, negsuc}
-use lib.ListN.{length, getD, length-append}
+use lib.ListN.{length, getD}
 use Rattle.rules.specs.Lists.{some-of, all-of}
-use Rattle.rules.specs.Streams.{Stream, stream, within, beyond, limit}
+use Rattle.rules.specs.Streams.{Stream, within, beyond, limit}
 use Rattle.rules.specs.Refusals.{done}
 use Rattle.rules.specs.Program.{broken, longer, cut-at, newline, space, minus, digit-zero, is-digit, decimal, unsigned, negated, not-negated, number, line, first-line, text, samples, most-lines, digits, printed-natural, printed-whole, printed-corners}
 use Rattle.text.specs.Digits.{digit-yes, unsigned-taken, number-plain}

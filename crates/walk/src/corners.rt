@@ -1,7 +1,7 @@
 // The corners of both rings at one run of places, the second ring's after the first's, and how two corners lie to each other.
 
 ghost use mathlib.Core.Path.{_≡_};
-ghost use Prim.Native.Nat.{ℕ, _+_, _<_};
+ghost use Prim.Native.Nat.{_<_};
 ghost use lib.Signed.{ltZ};
 ghost use lib.ListN.{length, getD};
 ghost use Rattle.rules.specs.Streams.{sample, same};

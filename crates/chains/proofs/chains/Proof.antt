@@ -1,7 +1,6 @@
 -- `chains::chains` meets its promise: the tests refuse, or both chains are made and written. Assumes nothing.
 use mathlib.Core.Path.{_≡_, sym, _∙_, subst}
 use borrow.Author.Needs.{needs}
-use native.Mathlib.Omega.{arith}
 use lib.ListN.{length}
 use Rattle.samples.specs.Tests.{tested-of, sample-tests}
 use Rattle.samples.specs.declared.tests.Tested.{Tested}

@@ -1,11 +1,11 @@
 -- `chains::sides::sides_of` meets its contract: the lower chain is made behind the upper one. Assumes nothing.
-use mathlib.Core.Path.{_≡_, _∙_, subst}
+use mathlib.Core.Path.{_≡_, subst}
 use mathlib.Core.Bool.{false, true}
 use Prim.Native.Nat.{_+_, _-_, _*_, _≤_}
 use native.Mathlib.Nat.{le-refl}
 use native.Mathlib.Omega.{arith}
 use borrow.Author.Needs.{needs}
-use borrow.Rule.Slice.PartMut.{mid-len, same-len-mid}
+use borrow.Rule.Slice.PartMut.{mid-len}
 use lib.ListN.{length}
 use Rattle.step.specs.declared.Stepped.{Stepped}
 use Rattle.chains.specs.Sides.{SideSays, SideIs}

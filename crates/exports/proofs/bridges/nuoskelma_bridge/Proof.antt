@@ -1,6 +1,6 @@
 -- `exports::bridges::nuoskelma_bridge` meets its contract: each arm is the face of what the bridge's promise gives, and the scratch is as it leaves it.
 -- Assumes nothing.
-use mathlib.Core.Path.{_≡_, ap, sym, _∙_, subst}
+use mathlib.Core.Path.{ap, sym, _∙_, subst}
 use lib.IntN.{ℤ}
 use mir.Syntax.{w32}
 use mir.ValLaws.{toZ-ofZ}

@@ -1,7 +1,6 @@
 -- `picker::scan::least` meets its contract: of the keys passed the loop keeps the least, and the others at the front.
 -- Assumes nothing.
 use Prim.Native.Nat.{_+_, _-_, _≤_}
-use mathlib.Core.Path.{_≡_}
 use native.Mathlib.Omega.{arith}
 use borrow.Author.Needs.{needs}
 use Rattle.picker.proofs.Passes.{Lifting, lifting-none, lifting-more, lifting-all}

@@ -1,16 +1,16 @@
 -- `program::answer::answer` meets its contract: the text is read as the rules read it, and what they say of it is printed.
 -- Assumes nothing.
-use mathlib.Core.Path.{_≡_, refl, sym, ap, _∙_}
+use mathlib.Core.Path.{_≡_, sym, ap, _∙_}
 use mathlib.Core.List.{List}
 use Prim.Native.Nat.{_≤_}
 use native.Mathlib.Omega.{arith}
 use borrow.Author.Needs.{needs}
 use denote.Ref.{now}
 use lib.IntN.{ℤ, pos}
-use lib.ListN.{length, take, replicate}
+use lib.ListN.{take, replicate}
 use Rattle.rules.specs.Streams.{streams}
 use Rattle.rules.specs.Refusals.{refused, done}
-use Rattle.rules.specs.Program.{samples, ring-of-text, printed, program}
+use Rattle.rules.specs.Program.{samples, printed, program}
 use Rattle.text.specs.Room.{refusal-room}
 use Rattle.program.specs.Told.{Told}
 use Rattle.program.specs.Answer.{text-refused, text-told, text-count}

@@ -1,11 +1,11 @@
 -- `program::answer::print_ring_of` meets its contract: the ring entry answers what the rules say of good text, and that is printed.
 -- Assumes nothing.
-use mathlib.Core.Path.{_≡_, refl, sym, ap, _∙_}
+use mathlib.Core.Path.{_≡_, sym, ap, _∙_}
 use Prim.Native.Nat.{_≤_}
 use native.Mathlib.Omega.{arith}
 use borrow.Author.Needs.{needs}
 use denote.Ref.{now}
-use lib.ListN.{length, take}
+use lib.ListN.{take}
 use Rattle.rules.specs.Streams.{streams}
 use Rattle.rules.specs.Refusals.{refused, done}
 use Rattle.rules.specs.Program.{ring-of-text, printed}

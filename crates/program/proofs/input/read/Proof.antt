@@ -1,11 +1,10 @@
 -- `program::input::read` meets its contract: each read that brings a byte leaves less room.
 -- Assumes nothing.
-use mathlib.Core.Path.{_≡_, subst}
+use mathlib.Core.Path.{_≡_}
 use Prim.Native.Nat.{_-_, _≤_}
 use native.Mathlib.Omega.{arith}
 use borrow.Author.Needs.{needs}
-use lib.ListN.{length, drop, length-drop}
-use Rattle.program.specs.Input.{Within}
+use lib.ListN.{length, length-drop}
 use Rattle.program.proofs.input.read.Statement.{statement}
 use Rattle.program.proofs.input.read.Tie as tie
 

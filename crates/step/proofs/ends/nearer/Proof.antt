@@ -1,5 +1,5 @@
 -- `step::ends::nearer` meets its contract: each return is what the comparisons before it say of nearness. Assumes nothing.
-use mathlib.Core.Path.{_≡_, _∙_}
+use mathlib.Core.Path.{_∙_}
 use borrow.Author.Needs.{sfits-of}
 use Rattle.samples.specs.Positions.{place}
 use Rattle.step.specs.Ends.{nearer-west, nearer-east, nearer-level}

@@ -1,5 +1,4 @@
 -- `step::lists::between` meets its contract. Assumes nothing.
-use mathlib.Core.Path.{_∙_}
 use Rattle.step.proofs.Words.{word-less, tells}
 use Rattle.step.proofs.lists.between.Statement.{statement}
 use Rattle.step.proofs.lists.between.Tie as tie

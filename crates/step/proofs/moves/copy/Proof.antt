@@ -1,9 +1,9 @@
 -- `step::moves::copy` meets its contract: the loop pastes the words one after another, and reads each as it was. Assumes nothing.
 use mathlib.Core.Path.{_≡_, ap, _∙_}
-use Prim.Native.Nat.{ℕ, _-_, _≤_}
+use Prim.Native.Nat.{_-_, _≤_}
 use native.Mathlib.Omega.{arith}
 use borrow.Author.Needs.{needs}
-use lib.ListN.{length, drop, length-drop}
+use lib.ListN.{drop, length-drop}
 use lib.Seq.{paste}
 use Rattle.step.specs.Parts.{Pasted, pasted-none, pasted-more, copied-item}
 use Rattle.step.proofs.moves.copy.Statement.{statement}

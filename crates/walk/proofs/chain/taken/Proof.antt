@@ -1,6 +1,6 @@
 -- `walk::chain::taken` meets its contract.
 -- Assumes nothing.
-use mathlib.Core.Path.{_≡_, sym, subst}
+use mathlib.Core.Path.{sym, subst}
 use Prim.Native.Nat.{_-_}
 use borrow.Author.Needs.{needs}
 use native.Mathlib.Numerals.{add-one}
@@ -8,7 +8,6 @@ use native.Mathlib.Omega.{arith}
 use denote.Ref.{now}
 use Rattle.rules.specs.Streams.{Stream}
 use Rattle.samples.specs.Positions.{Near}
-use Rattle.stack.specs.Walk.{skips}
 use Rattle.walk.specs.Both.{listed-at, Next}
 use Rattle.walk.specs.Places.{corner-near}
 use Rattle.walk.specs.Stacks.{taken-top, taken-hidden}
