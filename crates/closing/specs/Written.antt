@@ -11,7 +11,6 @@ use Rattle.rules.specs.Lists.{written, zeros}
 use Rattle.rules.specs.Streams.{Stream}
 use Rattle.rules.specs.Refusals.{Answer, refused, done}
 use Rattle.stack.specs.Places.{listed, length-listed, map-listed}
-use Rattle.closing.specs.declared.Ringed.{Ringed}
 use Rattle.closing.specs.declared.Ringed.the-variants as ringed
 use Rattle.closing.specs.Meaning.{unless-short, Outcome}
 

@@ -3,7 +3,7 @@
 use mathlib.Core.Path.{_≡_, refl, sym, ap, _∙_, subst}
 use mathlib.Core.Logic.{_⊎_, inl, inr}
 use mathlib.Core.Bool.{true, false}
-use mathlib.Core.List.{List, [], _++_}
+use mathlib.Core.List.{List, _++_}
 use Prim.Native.Nat.{ℕ, zero, suc, _+_, _-_, _≤_, _<_}
 use native.Mathlib.Decide.{decLt}
 use native.Mathlib.Omega.{arith}
@@ -13,7 +13,7 @@ use lib.Seq.{length-take-le, getD-take, getD-append-add}
 use borrow.Rule.Slice.PartMut.{putMid, postOf}
 use Rattle.rules.specs.Streams.{Stream, streams, sample, mirrored}
 use Rattle.rules.specs.Chain.{UpperChain, empty}
-use Rattle.rules.specs.Ring.{closed, ring}
+use Rattle.rules.specs.Ring.{closed}
 use Rattle.rules.specs.Use.{join}
 use Rattle.stack.specs.Places.{listed, listed-alike}
 use Rattle.stack.specs.Walk.{All}

@@ -3,8 +3,8 @@
 -- reading decides, east before north."
 -- A finite float is its sign, a whole number m and a power e of two: m * 2 ^ e is the fraction m * up e / down e.
 -- Assumes nothing.
-use mathlib.Core.Bool.{Bool, true, false, cond, not}
-use mathlib.Core.List.{List, [], _∷_, map}
+use mathlib.Core.Bool.{Bool, true, false, cond}
+use mathlib.Core.List.{List, [], _∷_}
 use Prim.Native.Nat.{ℕ, zero, suc, _*_, _/_, _%_}
 use lib.IntN.{ℤ, pos, negℤ}
 use lib.Dec.{ltb, eqb}

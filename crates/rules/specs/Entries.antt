@@ -1,10 +1,10 @@
 -- The outcome of every entry, for all inputs: the answer, and the content of everything lent. A promise is one equation for the answer and one for each
 -- lent list, over these.
 -- Assumes nothing.
-use mathlib.Core.Bool.{Bool, true, false, cond, not, _&&_, _||_}
+use mathlib.Core.Bool.{Bool, true, false, not, _&&_, _||_}
 use mathlib.Core.Option.{Option, none, some}
 use mathlib.Core.List.{List, [], _∷_, _++_, map}
-use Prim.Native.Nat.{ℕ, zero, suc, _+_, _-_, _*_, _/_, _%_}
+use Prim.Native.Nat.{ℕ, _+_, _-_, _/_, _%_}
 use lib.IntN.{ℤ, pos}
 use lib.Dec.{leb, ltb, eqb}
 use lib.Ieee.{Float}

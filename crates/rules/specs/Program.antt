@@ -3,7 +3,7 @@
 -- the 513th line (2) if the 512 before it are good. Only then is 3 tested. It prints "ring" and the corner count, then a line per corner, east and north;
 -- or "refused", the number and the place on one line, one space between." Text is a list of bytes, in and out.
 -- Assumes nothing.
-use mathlib.Core.Bool.{Bool, true, false, cond, not, _&&_}
+use mathlib.Core.Bool.{Bool, false, cond, not, _&&_}
 use mathlib.Core.Option.{Option, none, some}
 use mathlib.Core.List.{List, [], _∷_, _++_}
 use Prim.Native.Nat.{ℕ, zero, suc, _+_, _-_, _*_, _/_, _%_}

@@ -1,7 +1,7 @@
 -- Record. "Big-endian. Byte 0 is the version, 1. Bytes 1 to 4 are the length in bytes of the rest. Then per corner 4 bytes east and 4 bytes north, two's
 -- complement, ring order. Length 0 is the empty ring."
 -- Assumes nothing.
-use mathlib.Core.Bool.{Bool, cond}
+use mathlib.Core.Bool.{cond}
 use mathlib.Core.List.{List, [], _∷_}
 use Prim.Native.Nat.{ℕ, zero, suc, _+_, _-_, _*_, _^_}
 use lib.IntN.{ℤ, pos, negsuc}

@@ -2,9 +2,9 @@
 -- exception: refusals 5 and 18 of an entry with scratch leave all the scratch zero. .. Where several hold, the first in this order is given."
 -- An entry's outcome is its tests in their order, then what it answers when none holds; the content of what was lent follows from the answer.
 -- Assumes nothing.
-use mathlib.Core.Bool.{Bool, true, cond, not, _&&_, _||_}
-use mathlib.Core.List.{List, [], _∷_, _++_}
-use Prim.Native.Nat.{ℕ, zero, _+_, _*_}
+use mathlib.Core.Bool.{Bool, cond, not, _||_}
+use mathlib.Core.List.{List, [], _∷_}
+use Prim.Native.Nat.{ℕ, _+_, _*_}
 use lib.IntN.{ℤ}
 use lib.Dec.{ltb, eqb}
 use lib.ListN.{length}

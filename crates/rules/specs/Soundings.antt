@@ -2,14 +2,14 @@
 -- example; and the rules' text example with its output.
 -- Assumes nothing.
 use mathlib.Core.Path.{_≡_, refl}
-use mathlib.Core.Bool.{Bool, true, false}
+use mathlib.Core.Bool.{true, false}
 use mathlib.Core.Option.{some}
-use mathlib.Core.List.{List, [], _∷_, _++_, map}
+use mathlib.Core.List.{List, [], _∷_}
 use Prim.Native.Nat.{ℕ}
 use lib.IntN.{ℤ, pos, negsuc}
 use lib.ListN.{replicate}
 use Rattle.rules.specs.Lists.{those, some-of, all-of, first-place, best-from, best, insert, sorted, alike}
-use Rattle.rules.specs.Streams.{Stream, stream, streams, sample, within, beyond, same, side}
+use Rattle.rules.specs.Streams.{Stream, stream, streams, within, beyond, same, side}
 use Rattle.rules.specs.Chain.{leftmost, rightmost, left-end, right-end, furthest-round, next-corner, corners, upper, lower, lowest, upper-numbers, lower-numbers}
 use Rattle.rules.specs.Ring.{closed, ring}
 use Rattle.rules.specs.Picker.{ranked, rank}

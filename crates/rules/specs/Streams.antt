@@ -1,7 +1,7 @@
 -- "A stream is an east part and a north part, signed whole numbers .. each from -1,000,000 to 1,000,000." Samples, their numbers, the limits,
 -- and sidedness, the one place where products of differences are formed.
 -- Assumes nothing.
-use mathlib.Core.Bool.{Bool, true, _&&_, not}
+use mathlib.Core.Bool.{Bool, _&&_, not}
 use mathlib.Core.List.{List, [], _∷_}
 use Prim.Native.Nat.{ℕ}
 use lib.IntN.{ℤ, pos, negℤ, natAbs, _-ℤ_, _*ℤ_}

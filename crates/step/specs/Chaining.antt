@@ -3,14 +3,13 @@
 -- Assumes nothing.
 use mathlib.Core.Path.{_≡_, sym, ap, ap₂, _∙_, subst, subst₂}
 use mathlib.Core.Logic.{_≢_}
-use mathlib.Core.Bool.{true, false}
 use mathlib.Core.List.{List, [], _∷_, _++_, map, map-append}
-use Prim.Native.Nat.{ℕ, _-_, _/_, _≤_, _<_}
+use Prim.Native.Nat.{ℕ, _-_, _/_, _≤_}
 use native.Mathlib.Omega.{arith}
 use lib.Signed.{ltZ}
 use lib.ListN.{length, length-map}
 use Rattle.rules.specs.Lists.{those}
-use Rattle.rules.specs.Streams.{Stream, sample}
+use Rattle.rules.specs.Streams.{Stream}
 use Rattle.rules.specs.Chain.{Of, LeftEnd, RightEnd, upper}
 use Rattle.rules.specs.Bridge.{ends}
 use Rattle.rules.specs.Step.{cut, left-list, right-list}

@@ -14,7 +14,7 @@ use lib.ListN.{length, getD}
 use Rattle.rules.specs.Lists.{some-of, all-of}
 use Rattle.rules.specs.Streams.{Stream, within, beyond, limit}
 use Rattle.rules.specs.Refusals.{done}
-use Rattle.rules.specs.Program.{broken, longer, cut-at, newline, space, minus, digit-zero, is-digit, decimal, unsigned, negated, not-negated, number, line, first-line, text, samples, most-lines, digits, printed-natural, printed-whole, printed-corners}
+use Rattle.rules.specs.Program.{broken, longer, cut-at, newline, space, digit-zero, is-digit, decimal, unsigned, negated, not-negated, number, line, first-line, text, samples, most-lines, digits, printed-natural, printed-whole, printed-corners}
 use Rattle.text.specs.Digits.{digit-yes, unsigned-taken, number-plain}
 use Rattle.text.specs.Naturals.{left-all, left-some}
 use Rattle.text.specs.Room.{natural-few, near-parts}

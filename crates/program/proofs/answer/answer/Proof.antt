@@ -10,7 +10,7 @@ use lib.IntN.{ℤ, pos}
 use lib.ListN.{take, replicate}
 use Rattle.rules.specs.Streams.{streams}
 use Rattle.rules.specs.Refusals.{refused, done}
-use Rattle.rules.specs.Program.{samples, printed, program}
+use Rattle.rules.specs.Program.{samples, program}
 use Rattle.text.specs.Room.{refusal-room}
 use Rattle.program.specs.Told.{Told}
 use Rattle.program.specs.Answer.{text-refused, text-told, text-count}

@@ -8,7 +8,7 @@ use denote.Ref.{now}
 use lib.ListN.{take}
 use Rattle.rules.specs.Streams.{streams}
 use Rattle.rules.specs.Refusals.{refused, done}
-use Rattle.rules.specs.Program.{ring-of-text, printed}
+use Rattle.rules.specs.Program.{ring-of-text}
 use Rattle.text.specs.Room.{refusal-room}
 use Rattle.program.specs.Told.{Told}
 use Rattle.program.specs.Answer.{ring-refused, ring-told, ring-count, printed-few}

@@ -1,6 +1,5 @@
 -- `step::lists::first` meets its contract: the two ends stand before the samples between. Assumes nothing.
 use mathlib.Core.Path.{_≡_, _∙_, subst₂}
-use Prim.Native.Nat.{_+_}
 use native.Mathlib.Omega.{arith}
 use borrow.Author.Needs.{needs, sfits-of}
 use mir.Facts.{toZ-ofZ}

@@ -6,7 +6,6 @@ use borrow.Author.Needs.{needs}
 use native.Mathlib.Numerals.{add-one}
 use native.Mathlib.Omega.{arith}
 use denote.Ref.{now}
-use Rattle.rules.specs.Streams.{Stream}
 use Rattle.samples.specs.Positions.{Near}
 use Rattle.walk.specs.Both.{listed-at, Next}
 use Rattle.walk.specs.Places.{corner-near}

@@ -1,7 +1,6 @@
 -- `walk::corners::faced` meets its contract: the north of a near stream can be negated.
 -- Assumes nothing.
 use mathlib.Core.Path.{refl, ap₂}
-use lib.IntN.{pos}
 use mir.Syntax.{w32}
 use mir.Facts.{toZ-ofZ}
 use Rattle.whole.specs.Solver.{var, ⊝_}
