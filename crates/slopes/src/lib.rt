@@ -1,6 +1,6 @@
 // The pick of a slope: the slope of a given rank among those that lie at the front of scratch, two words each. Slopes are compared by cross products and
 // never divided. A step parts the slopes below a pivot from those above it and goes on with the side that has the rank; correctness needs only that the pivot is
-// one of the slopes. A short list is counted through.
+// one of the slopes. Of twelve slopes or fewer the least is taken out until it has the rank.
 mod fraction;
 mod gather;
 mod scan;
