@@ -16,16 +16,17 @@ use Rattle.rules.specs.Chain.{corners, upper, lower, upper-numbers, lower-numbe
 use Rattle.outline.specs.Lists.{those-most, those-in}
 use Rattle.rounds.specs.Items.{first-of-in}
 use Rattle.rounds.specs.Pairs.{here}
+use Rattle.rounds.specs.Steps.{BySteps}
 use Rattle.rounds.specs.WholeList.{numbers, numbers-length}
 use Rattle.samples.specs.Positions.{Listed, at, east-of}
 use Rattle.step.specs.Lists.{between, first-numbers, FirstAsks, Listing}
 use Rattle.step.specs.Ends.{EndOf, nearest}
-use Rattle.step.specs.Chaining.{Chainable, chain-numbers}
+use Rattle.step.specs.Chaining.{Chainable}
 use Rattle.step.specs.Stepping.{facing, number-at, ChainAsks, ChainSays}
 use Rattle.step.specs.First.{first-chainable, first-chain, end-is}
 use Rattle.step.specs.declared.Stepped.{Stepped}
 use Rattle.step.specs.declared.Stepped.the-variants.{Chain, NoBridge}
-use Rattle.chains.specs.Mirrored.{lower-mirrored}
+use Rattle.outline.specs.Numbers.{lower-mirrored}
 use Rattle.chains.specs.Sides.{side-numbers, SideAsks, SideIs, SideSays, BothAre}
 
 -- ---- the numbers of a side
@@ -99,13 +100,13 @@ module _ {es ns : List ℤ} {w : List ℕ} (lower : Bool) (asks : SideAsks es ns
           room = omega (arith, asks .room, long, count, first-few);
         }
 
-    pub side-says : (r : Stepped) (after : List ℕ) → ChainSays to (number-at es ns lower) (take t w₁) r after → SideSays es ns lower r after
+    pub side-says : (r : Stepped) (after : List ℕ) → ChainSays to (number-at es ns lower) (take t w₁) p q r after → SideSays es ns lower r after
     side-says (Chain m) after c =
         record {
           numbers =
               c .corners
-              ∙ ap (chain-numbers to (number-at es ns lower)) (l .front)
-              ∙ first-chain es ns (asks .sampled .even) lower left-end right-end
+              ∙ ap (map (number-at es ns lower)) (first-chain es ns (asks .sampled .even) lower left-end right-end
+              (subst (λ (k : List ℕ). BySteps (map to k) (to p) (to q) (c .chain)) (l .front) (c .by-steps)))
               ∙ reported es ns lower;
           few = omega (arith, c .few, ap (λ (k : List ℕ). length k) (l .front), first-few);
         }

@@ -1,3 +1,2 @@
-pub mod Mirrored
 pub mod Sides
 pub mod Promise

@@ -9,19 +9,13 @@ use Rattle.rules.specs.Chain.{leftmost}
 use Rattle.rules.specs.Ring.{ring}
 use Rattle.rules.specs.Use.{envelope}
 use Rattle.rules.specs.Soundings.{A-ring, tall, flat}
+use Rattle.outline.specs.Lists.{same-true}
 use Rattle.rings.specs.Rings.{envelope-ring}
 use Rattle.rings.specs.Lines.{no-samples}
 use Rattle.neighbours.specs.Test.{turns, closes, goes-round, neighbourly}
 use Rattle.neighbours.specs.Global.{Parts, fit-ring, ring-parts}
 use Rattle.neighbours.specs.Split.{split}
 use Rattle.neighbours.specs.Walk.{fit-passes}
-
--- two answers that are yes together are the same
-agree : (s t : Bool) → (s ≡ true → t ≡ true) → (t ≡ true → s ≡ true) → s ≡ t
-agree true true f g = refl
-agree true false f g = sym (f refl)
-agree false true f g = g refl
-agree false false f g = refl
 
 -- what closes from two lists that fit is an envelope and passes
 parts-envelope : {r : List Stream} → Parts r → envelope r ≡ true
@@ -34,7 +28,7 @@ parts-pass h = subst (λ (c : List Stream). neighbourly c ≡ true) (h .closes) 
 pub recognised : (r : List Stream) → neighbourly r ≡ envelope r
 unfolding neighbourly
 recognised [] = sym (envelope-ring [] .1 no-samples)
-recognised (x ∷ xs) = agree (neighbourly (x ∷ xs)) (envelope (x ∷ xs)) (λ e. parts-envelope (split x xs e))
+recognised (x ∷ xs) = same-true (neighbourly (x ∷ xs)) (envelope (x ∷ xs)) (λ e. parts-envelope (split x xs e))
     (λ e. subst (λ (r : List Stream). neighbourly r ≡ true) (envelope-ring (x ∷ xs) .0 e) (parts-pass (ring-parts x xs)))
 
 -- ---- examples

@@ -48,6 +48,12 @@ pub is-no : (t : Bool) → ¬ (t ≡ true) → t ≡ false
 is-no true f = absurd (f refl)
 is-no false f = refl
 
+-- two tests answer alike if what passes the one passes the other
+pub same-true : (s t : Bool) → (s ≡ true → t ≡ true) → (t ≡ true → s ≡ true) → s ≡ t
+same-true true t f g = sym (f refl)
+same-true false true f g = g refl
+same-true false false f g = refl
+
 module _ {A : Type 0} where
   -- ---- the items that pass a test
 

@@ -5,18 +5,19 @@ use mathlib.Core.List.{List, [], _∷_, map, map-map, reverse, reverseAux, rever
 use mathlib.Core.List.{List·Memᴰ, List·Memᴰ·head, List·Memᴰ·tail, List·Memᴰ·not-nil, List·Memᴰ·cases-cons}
 
 -- ---- maps
+
+-- one map after another is a third, if that holds of each item
+pub map-both : {A : Type 0} (f g h : A → A) → ((x : A) → g (f x) ≡ h x) → (xs : List A) → map g (map f xs) ≡ map h xs
+map-both {A} f g h e xs = map-map g f xs ∙ ap (λ (k : A → A). map k xs) (fun-ext e)
+
+map-reverseAux : {A B : Type 0} (f : A → B) (xs ys : List A) → map f (reverseAux xs ys) ≡ reverseAux (map f xs) (map f ys)
+map-reverseAux f [] ys = refl
+map-reverseAux f (x ∷ xs) ys = map-reverseAux f xs (x ∷ ys)
+
+pub map-reverse : {A B : Type 0} (f : A → B) (xs : List A) → map f (reverse xs) ≡ reverse (map f xs)
+map-reverse f xs = map-reverseAux f xs []
+
 module _ {A : Type 0} where
-  -- one map after another is a third, if that holds of each item
-  pub map-both : (f g h : A → A) → ((x : A) → g (f x) ≡ h x) → (xs : List A) → map g (map f xs) ≡ map h xs
-  map-both f g h e xs = map-map g f xs ∙ ap (λ (k : A → A). map k xs) (fun-ext e)
-
-  map-reverseAux : (f : A → A) (xs ys : List A) → map f (reverseAux xs ys) ≡ reverseAux (map f xs) (map f ys)
-  map-reverseAux f [] ys = refl
-  map-reverseAux f (x ∷ xs) ys = map-reverseAux f xs (x ∷ ys)
-
-  pub map-reverse : (f : A → A) (xs : List A) → map f (reverse xs) ≡ reverse (map f xs)
-  map-reverse f xs = map-reverseAux f xs []
-
   -- ---- what stands in a list turned round
   reverseAux-in : (xs : List A) {ys : List A} {p : A} → List·Memᴰ p (reverseAux xs ys) → List·Memᴰ p xs ⊎ List·Memᴰ p ys
   reverseAux-in [] m = inr m

@@ -1,5 +1,6 @@
 -- Chains seen from behind: with every east negated the upper chain has the same corners, their easts negated, in reverse order. So turning about
--- makes each upper corner a lower one, both its signs changed, in reverse order. Assumes nothing.
+-- makes each upper corner a lower one, both its signs changed, in reverse order, and the sample numbers that report the one chain report the other in
+-- reverse. Assumes nothing.
 use mathlib.Core.Path.{_≡_, refl, sym, ap, _∙_}
 use mathlib.Core.List.{List, [], _∷_, map, reverse, reverseAux, Memᴰ·map}
 use lib.IntN.{ℤ, negℤ, negℤ-negℤ}
@@ -7,9 +8,10 @@ use lib.Signed.{_≤ℤ_, _<ℤ_}
 use Rattle.whole.specs.Linear.{order, negation}
 use Rattle.whole.specs.Solver.{ring, east, north, tri, _⊖_, _⊗_, ⊝_}
 use Rattle.rules.specs.Streams.{Stream, stream, mirrored, turned, side}
-use Rattle.rules.specs.Chain.{Samples, Of, LeftEnd, RightEnd, Edge, Turn, Goes, stop, on, UpperChain, empty, starts, upper, lower}
-use Rattle.outline.specs.Lists.{map-in}
+use Rattle.rules.specs.Chain.{Samples, Of, LeftEnd, RightEnd, Edge, Turn, Goes, stop, on, UpperChain, empty, starts, upper, lower, lowest, upper-numbers, lower-numbers}
+use Rattle.outline.specs.Lists.{map-in, map-twice}
 use Rattle.outline.specs.Chains.{upper-is, upper-only}
+use Rattle.outline.specs.Numbers.{numbers-through, lower-mirrored}
 use Rattle.rings.specs.Lists.{map-both, map-reverse}
 
 -- with every east negated
@@ -125,3 +127,24 @@ lower-turned xs =
     ap (map mirrored) (upper-flipped xs) ∙
     map-reverse mirrored (map flipped (upper xs)) ∙
     ap reverse (map-both flipped mirrored turned (λ p. refl) (upper xs))
+
+-- ---- the numbers that report the chains
+
+pub numbers-flipped : (xs : List Stream) → upper-numbers (map flipped xs) ≡ reverse (upper-numbers xs)
+unfolding upper-numbers
+numbers-flipped xs =
+    ap (map (lowest (map flipped xs))) (upper-flipped xs)
+    ∙ map-reverse (lowest (map flipped xs)) (map flipped (upper xs))
+    ∙ ap reverse (numbers-through flipped flipped-twice (map flipped xs) (upper xs)
+    ∙ ap (λ (ys : List Stream). map (lowest ys) (upper xs)) (map-twice flipped flipped-twice xs))
+
+-- of the samples turned about, the upper chain is reported by the lower chain's numbers in reverse, and the lower chain by the upper chain's
+pub upper-numbers-turned : (xs : List Stream) → upper-numbers (map turned xs) ≡ reverse (lower-numbers xs)
+upper-numbers-turned xs =
+    ap upper-numbers (sym (map-both mirrored flipped turned (λ p. refl) xs))
+    ∙ numbers-flipped (map mirrored xs)
+    ∙ ap reverse (sym (lower-mirrored xs))
+
+pub lower-numbers-turned : (xs : List Stream) → lower-numbers (map turned xs) ≡ reverse (upper-numbers xs)
+lower-numbers-turned xs =
+    lower-mirrored (map turned xs) ∙ ap upper-numbers (map-both turned mirrored flipped both-ways xs) ∙ numbers-flipped xs

@@ -24,12 +24,6 @@ pub not-not : (b : Bool) → not (not b) ≡ b
 not-not true = refl
 not-not false = refl
 
--- two tests agree if what passes the one passes the other
-pub same-true : (s t : Bool) → (s ≡ true → t ≡ true) → (t ≡ true → s ≡ true) → s ≡ t
-same-true true t f g = sym (f refl)
-same-true false true f g = g refl
-same-true false false f g = refl
-
 -- ---- the first item that passes a test
 
 module _ {A : Type 0} where

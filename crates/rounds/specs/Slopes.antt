@@ -17,7 +17,8 @@ use Rattle.rules.specs.Streams.{Stream, side}
 use Rattle.rules.specs.Round.{Slope, slope, slope-le, height, middle-slope}
 use Rattle.ranks.specs.Counts.{count, count-not}
 use Rattle.ranks.specs.Ranks.{OrderOn, HasRank, ranked-holds-on, ranked-has-rank-on, rank-by-counts-on}
-use Rattle.rounds.specs.Items.{T-true, false-T, not-not, same-true}
+use Rattle.outline.specs.Lists.{same-true}
+use Rattle.rounds.specs.Items.{T-true, false-T, not-not}
 
 -- ---- the order
 

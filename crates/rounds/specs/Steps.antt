@@ -5,25 +5,28 @@
 use mathlib.Core.Path.{_≡_, refl, sym, ap, ap₂, _∙_, subst}
 use mathlib.Core.Logic.{_≢_}
 use mathlib.Core.Bool.{Bool, true, false, _||_, _&&_}
-use mathlib.Core.Option.{Option, some}
+use mathlib.Core.Option.{Option, some, Option·some-injective}
 use mathlib.Core.List.{List, [], _∷_, _++_, map}
-use Prim.Native.Nat.{ℕ, _-_, _/_, _≤_, _<_}
+use Prim.Native.Nat.{ℕ, zero, suc, _-_, _/_, _≤_, _<_}
+use native.Mathlib.Nat.{le-refl}
+use native.Mathlib.Omega.{arith}
 use lib.IntN.{ℤ}
 use lib.Signed.{leZ, ltZ}
 use lib.ListN.{length}
 use Rattle.rules.specs.Lists.{consIf, those}
-use Rattle.rules.specs.Streams.{Stream, mirrored}
+use Rattle.rules.specs.Streams.{Stream, same, mirrored}
 use Rattle.rules.specs.Picker.{rank}
-use Rattle.rules.specs.Chain.{Of, upper}
-use Rattle.rules.specs.Bridge.{Bridge, spans}
-use Rattle.rules.specs.Step.{cut, left-list, right-list, first-list, cut-bridge, chain-by-steps}
+use Rattle.rules.specs.Chain.{Of, LeftEnd, RightEnd, upper}
+use Rattle.rules.specs.Bridge.{Bridge, ends, spans}
+use Rattle.rules.specs.Step.{cut, left-list, right-list, first-list, joined, reached, cut-bridge, steps, chain-by-steps}
 use Rattle.rules.specs.Entries.{is-none, step-without-bridge}
 use Rattle.ranks.specs.Counts.{count, count-same, length-those}
 use Rattle.ranks.specs.Ranks.{under, over}
 use Rattle.ranks.specs.Numbers.{whole-under, rank-halves}
+use Rattle.outline.specs.Lists.{same-equal, equal-same, no-same, position-decides}
 use Rattle.outline.specs.Bridges.{BridgeOver, is-spans}
-use Rattle.outline.specs.Prefix.{step-chain, left-list-shorter, right-list-shorter}
-use Rattle.outline.specs.Steps.{Middle, Ready, ready-two, left-list-ready, right-list-ready, cut-bridge-some, cut-bridge-is, chain-by-steps-is, left-list-half, right-list-half}
+use Rattle.outline.specs.Prefix.{step-chain, one-corner, left-list-shorter, right-list-shorter, first-list-chain}
+use Rattle.outline.specs.Steps.{Middle, Ready, ready-two, left-list-ready, right-list-ready, first-list-ready, cut-bridge-some, cut-bridge-is, steps-chain, chain-by-steps-is, left-list-half, right-list-half}
 
 -- ---- the rank floor(t/2) of t numbers is a middle of them
 
@@ -100,6 +103,57 @@ ready-spans {l} r =
     })
 
 -- ---- the chain by steps
+
+-- The rule's own steps over a list from p to q give C, however deep they may go: "ends at one position make no step", else the step calls itself
+pub record BySteps (l : List Stream) (p q : Stream) (C : List Stream) : Type 0 where
+  pub given : (n : ℕ) → length l ≤ n → reached (same p q) p (steps n p q l (cut-bridge l)) ≡ some C
+
+pub no-step : {l : List Stream} {p q : Stream} → p ≡ q → BySteps l p q (p ∷ [])
+no-step {l} {p} {q} e =
+    record { given = λ n h. ap (λ (b : Bool). reached b p (steps n p q l (cut-bridge l))) (equal-same e) }
+
+-- one step, over what its two calls give
+pub one-step : {l : List Stream} {p q i j : Stream} {C D : List Stream} → p ≢ q → cut-bridge l ≡ some (ends i j) → Halved l i j
+    → BySteps (left-list i l) p i C → BySteps (right-list j l) j q D → BySteps l p q (C ++ D)
+unfolding steps
+one-step {l} {p} {q} {i} {j} {C} {D} far e halves left right = record { given = given }
+  where
+    -- where the right list's outer end is reached, it is the one that the list starts with
+    end : (n : ℕ) (b : Bool) → same j q ≡ b
+        → reached b q (steps n j q (right-list j l) (cut-bridge (right-list j l))) ≡ reached b j (steps n j q (right-list j l) (cut-bridge (right-list j l)))
+    end n true t = ap (λ (z : Stream). some (z ∷ [])) (sym (same-equal j q t))
+    end n false t = refl
+
+    given : (n : ℕ) → length l ≤ n → reached (same p q) p (steps n p q l (cut-bridge l)) ≡ some (C ++ D)
+    given zero h = absurd (omega (arith, halves .left-shorter))
+    given (suc n) h =
+        ap (λ (b : Bool). reached b p (steps (suc n) p q l (cut-bridge l))) (no-same far)
+        ∙ ap (steps (suc n) p q l) e
+        ∙ ap₂ joined
+        (left .given n (omega (arith, halves .left-shorter)))
+        (end n (same j q) refl ∙ right .given n (omega (arith, halves .right-shorter)))
+
+-- over the first list they give the chain of all samples
+pub first-steps : {xs : List Stream} {p q : Stream} → LeftEnd (Of xs) p → RightEnd (Of xs) q → {C : List Stream} → BySteps (first-list p q xs) p q C
+    → C ≡ upper xs
+first-steps {xs} {p} {q} h k {C} b = go (position-decides p q)
+  where
+    l : List Stream
+    l = first-list p q xs
+
+    given : reached (same p q) p (steps (length l) p q l (cut-bridge l)) ≡ some C
+    given = b .given (length l) (le-refl (length l))
+
+    go : Dec (p ≡ q) → C ≡ upper xs
+    go (yes e) =
+        Option·some-injective C (p ∷ []) (sym given ∙ no-step e .given (length l) (le-refl (length l)))
+        ∙ sym (one-corner h (subst (RightEnd (Of xs)) (sym e) k))
+    go (no f) =
+        Option·some-injective C (upper l)
+        (sym given
+        ∙ ap (λ (t : Bool). reached t p (steps (length l) p q l (cut-bridge l))) (no-same f)
+        ∙ steps-chain middle-rank (length l) l p q (first-list-ready h k f) (le-refl (length l)))
+        ∙ first-list-chain h k
 
 pub chain-by-steps-chain : (xs : List Stream) → chain-by-steps xs ≡ some (upper xs)
 chain-by-steps-chain xs = chain-by-steps-is middle-rank xs

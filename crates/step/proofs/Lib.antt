@@ -3,4 +3,3 @@ mod Passing
 mod Cutting
 mod Halving
 mod Sides
-mod Two

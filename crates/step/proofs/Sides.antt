@@ -3,7 +3,7 @@
 use mathlib.Core.Path.{_≡_, sym, ap, ap₂, _∙_, subst}
 use mathlib.Core.Logic.{inl, inr, ⊎-elim}
 use mathlib.Core.Bool.{Bool, false, _&&_}
-use mathlib.Core.List.{List, [], _∷_, _++_, map, List·Memᴰ, List·Memᴰ·cases-cons}
+use mathlib.Core.List.{List, [], _∷_, _++_, map, map-append, List·Memᴰ, List·Memᴰ·cases-cons}
 use Prim.Native.Nat.{ℕ, _+_, _-_, _*_, _≤_, _<_}
 use native.Mathlib.Nat.{le-refl}
 use native.Mathlib.Omega.{arith}
@@ -20,10 +20,10 @@ use Rattle.rules.specs.Step.{cut}
 use Rattle.outline.specs.Lists.{those-in, yes-both, not-both}
 use Rattle.outline.specs.Bridges.{BothSides, spans-is}
 use Rattle.rounds.specs.Rounds.{found-in}
-use Rattle.rounds.specs.Steps.{ready-spans}
+use Rattle.rounds.specs.Steps.{ready-spans, BySteps, no-step}
 use Rattle.samples.specs.Positions.{at, east-of, Listed}
 use Rattle.step.specs.Parts.{CopyAsks, same-part, paste-front, paste-part}
-use Rattle.step.specs.Chaining.{Chainable, left-numbers, right-numbers, chain-numbers, left-chainable, right-chainable, chain-splits}
+use Rattle.step.specs.Chaining.{Chainable, left-numbers, right-numbers, left-chainable, right-chainable, steps-on}
 use Rattle.step.specs.Stepping.{number-at, CutAsks, CutSays, SplitAsks, SplitAt, ChainAsks, StepAsks, ChainIs}
 use Rattle.step.specs.StepLists.{list-long, ready, two, is-cut, split-list, left-few, right-few}
 
@@ -49,12 +49,12 @@ module _ {es ns : List ℤ} {lower : Bool} {w : List ℕ} {t p q : ℕ} (asks : 
   pub some-room : 0 < length w
   some-room = omega (arith, asks .room, asks .chainable .started, length-take t w)
 
-  pub alone-is : at es ns lower p ≡ at es ns lower q → ChainIs (at es ns lower) (number-at es ns lower) (take t w) 1 (set w 0 p)
+  pub alone-is : at es ns lower p ≡ at es ns lower q → ChainIs (at es ns lower) (number-at es ns lower) (take t w) p q 1 (set w 0 p)
   alone-is e =
       record {
-        corners =
-            take-suc-set w 0 p some-room
-            ∙ sym (ap (map (number-at es ns lower)) (asks .chainable .alone e) ∙ ap (λ (x : ℕ). x ∷ []) (asks .chainable .told));
+        chain = at es ns lower p ∷ [];
+        by-steps = no-step e;
+        corners = take-suc-set w 0 p some-room ∙ sym (ap (λ (x : ℕ). x ∷ []) (asks .chainable .told));
         few = asks .chainable .started;
       }
 
@@ -66,23 +66,27 @@ pub record Parts (es ns : List ℤ) (lower : Bool) (w : List ℕ) (t p q i j lef
   pub split : SplitAt es ns lower (take t w) (cut (map (at es ns lower) (take t w))) i j left right w₂
   pub long : length w₂ ≡ length w
 
--- in the place of the left list stands its chain, u corners
-pub record LeftMade (es ns : List ℤ) (lower : Bool) (w : List ℕ) (t i j left right u : ℕ) (w₃ : List ℕ) : Type 0 where
-  pub left-corners : take u (drop right w₃) ≡ chain-numbers (at es ns lower) (number-at es ns lower) (left-numbers (at es ns lower) i (take t w))
+-- in the place of the left list stands its chain C, u corners
+pub record LeftMade (es ns : List ℤ) (lower : Bool) (w : List ℕ) (t p i j left right u : ℕ) (C : List Stream) (w₃ : List ℕ) : Type 0 where
+  pub left-steps : BySteps (map (at es ns lower) (left-numbers (at es ns lower) i (take t w))) (at es ns lower p) (at es ns lower i) C
+  pub left-corners : take u (drop right w₃) ≡ map (number-at es ns lower) C
   pub right-list : take right w₃ ≡ right-numbers (at es ns lower) j (take t w)
   pub few : u ≤ left
   pub long : length w₃ ≡ length w
 
 -- the right list stands behind it
-pub record Copied (es ns : List ℤ) (lower : Bool) (w : List ℕ) (t i j left right u : ℕ) (w₄ : List ℕ) : Type 0 where
-  pub left-corners : take u (drop right w₄) ≡ chain-numbers (at es ns lower) (number-at es ns lower) (left-numbers (at es ns lower) i (take t w))
+pub record Copied (es ns : List ℤ) (lower : Bool) (w : List ℕ) (t p i j left right u : ℕ) (C : List Stream) (w₄ : List ℕ) : Type 0 where
+  pub left-steps : BySteps (map (at es ns lower) (left-numbers (at es ns lower) i (take t w))) (at es ns lower p) (at es ns lower i) C
+  pub left-corners : take u (drop right w₄) ≡ map (number-at es ns lower) C
   pub right-list : take right (drop (right + u) w₄) ≡ right-numbers (at es ns lower) j (take t w)
   pub few : u ≤ left
   pub long : length w₄ ≡ length w
 
 -- in its place stands its chain, v corners: both chains are that of the list
-pub record BothMade (es ns : List ℤ) (lower : Bool) (w : List ℕ) (t right u v : ℕ) (w₅ : List ℕ) : Type 0 where
-  pub corners : take (u + v) (drop right w₅) ≡ chain-numbers (at es ns lower) (number-at es ns lower) (take t w)
+pub record BothMade (es ns : List ℤ) (lower : Bool) (w : List ℕ) (t p q right u v : ℕ) (w₅ : List ℕ) : Type 0 where
+  pub chain : List Stream
+  pub by-steps : BySteps (map (at es ns lower) (take t w)) (at es ns lower p) (at es ns lower q) chain
+  pub corners : take (u + v) (drop right w₅) ≡ map (number-at es ns lower) chain
   pub few : u + v ≤ t
   pub inside : right + (u + v) ≤ length w
   pub long : length w₅ ≡ length w
@@ -178,12 +182,13 @@ module _ {es ns : List ℤ} {lower : Bool} {w : List ℕ} {t p q i j left right 
 
   -- ---- after the chain of the left list
 
-  pub left-made : {u : ℕ} {ys : List ℕ} → ChainIs face naming (take left (midOf right (length w₂ - right) w₂)) u ys
+  pub left-made : {u : ℕ} {ys : List ℕ} (c : ChainIs face naming (take left (midOf right (length w₂ - right) w₂)) p i u ys)
       → length ys ≡ length (midOf right (length w₂ - right) w₂)
-      → LeftMade es ns lower w t i j left right u (putMid right (length w₂ - right) w₂ ys)
+      → LeftMade es ns lower w t p i j left right u (c .chain) (putMid right (length w₂ - right) w₂ ys)
   left-made {u} {ys} c long-ys =
       record {
-        left-corners = put-part right (length w₂ - right) u w₂ ys right-fits (omega (arith, spare, s .long, few, part-long)) ∙ c .corners ∙ ap (chain-numbers face naming) is;
+        left-steps = subst (λ (k : List ℕ). BySteps (map face k) (face p) (face i) (c .chain)) is (c .by-steps);
+        left-corners = put-part right (length w₂ - right) u w₂ ys right-fits (omega (arith, spare, s .long, few, part-long)) ∙ c .corners;
         right-list = take-put right (length w₂ - right) w₂ ys right-fits ∙ s .split .halves .right-is;
         few = few;
         long = same-len-mid right (length w₂ - right) w₂ ys long-ys ∙ s .long;
@@ -199,16 +204,17 @@ module _ {es ns : List ℤ} {lower : Bool} {w : List ℕ} {t p q i j left right 
       part-long = long-ys ∙ mid-len right (length w₂) w₂ (le-refl (length w₂))
 
   -- the right list can be copied behind it
-  module _ {u : ℕ} {w₃ : List ℕ} (m : LeftMade es ns lower w t i j left right u w₃) where
+  module _ {u : ℕ} {C : List Stream} {w₃ : List ℕ} (m : LeftMade es ns lower w t p i j left right u C w₃) where
     pub behind-asks : CopyAsks w₃ 0 (right + u) right
     behind-asks = record { source = omega (arith, spare, m .long); target = omega (arith, spare, m .long, m .few); apart = inr (omega arith) }
 
     enough : right ≤ length w₃
     enough = omega (arith, spare, m .long)
 
-    pub right-copied : {w₄ : List ℕ} → w₄ ≡ paste w₃ (right + u) (drop 0 w₃) right → Copied es ns lower w t i j left right u w₄
+    pub right-copied : {w₄ : List ℕ} → w₄ ≡ paste w₃ (right + u) (drop 0 w₃) right → Copied es ns lower w t p i j left right u C w₄
     right-copied {w₄} e =
         record {
+          left-steps = m .left-steps;
           left-corners =
               same-part right u w₄ w₃ (omega (arith, enough, long)) enough (
               ap (take (right + u)) e ∙ paste-front w₃ (right + u) w₃ right (behind-asks .target) enough
@@ -227,7 +233,7 @@ module _ {es ns : List ℤ} {lower : Bool} {w : List ℕ} {t p q i j left right 
 
   -- ---- the right list behind the left list's chain
 
-  module _ {u : ℕ} {w₄ : List ℕ} (m : Copied es ns lower w t i j left right u w₄) where
+  module _ {u : ℕ} {C : List Stream} {w₄ : List ℕ} (m : Copied es ns lower w t p i j left right u C w₄) where
     pub right-starts : right + u ≤ length w₄
     right-starts = omega (arith, spare, m .long, m .few)
 
@@ -249,11 +255,14 @@ module _ {es ns : List ℤ} {lower : Bool} {w : List ℕ} {t p q i j left right 
         below : j < length es
         below = s .asks .asks .listed .below j (found-in face (cut (map face all)) (s .split .found) .1)
 
-    pub both-made : {v : ℕ} {zs : List ℕ} → ChainIs face naming (take right (midOf (right + u) (length w₄ - (right + u)) w₄)) v zs
+    pub both-made : {v : ℕ} {zs : List ℕ} → ChainIs face naming (take right (midOf (right + u) (length w₄ - (right + u)) w₄)) j q v zs
         → length zs ≡ length (midOf (right + u) (length w₄ - (right + u)) w₄)
-        → BothMade es ns lower w t right u v (putMid (right + u) (length w₄ - (right + u)) w₄ zs)
+        → BothMade es ns lower w t p q right u v (putMid (right + u) (length w₄ - (right + u)) w₄ zs)
     both-made {v} {zs} c long-zs =
         record {
+          chain = C ++ c .chain;
+          by-steps = steps-on face naming (s .asks .asks .chainable) (s .asks .far) (s .split .found) (m .left-steps)
+              (subst (λ (k : List ℕ). BySteps (map face k) (face j) (face q) (c .chain)) right-is (c .by-steps));
           corners =
               take-add u v (drop right w₅)
               ∙ ap₂ _++_
@@ -262,9 +271,8 @@ module _ {es ns : List ℤ} {lower : Bool} {w : List ℕ} {t p q i j left right 
               ∙ m .left-corners)
               (ap (take v) (drop-drop u right w₅)
               ∙ put-part (right + u) (length w₄ - (right + u)) v w₄ zs right-starts (omega (arith, spare, m .long, m .few, few, part-long))
-              ∙ c .corners
-              ∙ ap (chain-numbers face naming) right-is)
-              ∙ sym (chain-splits face naming (s .asks .asks .chainable) (s .asks .far) (s .split .found));
+              ∙ c .corners)
+              ∙ sym (map-append naming C (c .chain));
           few = omega (arith, m .few, few, left-few (s .asks) (s .split), right-few (s .asks) (s .split));
           inside = omega (arith, spare, m .few, few);
           long = long ∙ m .long;
@@ -284,13 +292,15 @@ module _ {es ns : List ℤ} {lower : Bool} {w : List ℕ} {t p q i j left right 
 
   -- ---- both chains side by side, and at the front
 
-  module _ {u v : ℕ} {w₅ : List ℕ} (m : BothMade es ns lower w t right u v w₅) where
+  module _ {u v : ℕ} {w₅ : List ℕ} (m : BothMade es ns lower w t p q right u v w₅) where
     pub front-asks : CopyAsks w₅ right 0 (u + v)
     front-asks = record { source = omega (arith, m .inside, m .long); target = omega (arith, m .inside, m .long); apart = inl (omega arith) }
 
-    pub chain-is : {w₆ : List ℕ} → w₆ ≡ paste w₅ 0 (drop right w₅) (u + v) → ChainIs face naming all (u + v) w₆
+    pub chain-is : {w₆ : List ℕ} → w₆ ≡ paste w₅ 0 (drop right w₅) (u + v) → ChainIs face naming all p q (u + v) w₆
     chain-is e =
         record {
+          chain = m .chain;
+          by-steps = m .by-steps;
           corners =
               ap (take (u + v)) e
               ∙ paste-part w₅ 0 (drop right w₅) (u + v) (front-asks .target) (omega (arith, front-asks .source, length-drop right w₅))

@@ -1,23 +1,22 @@
 -- A list of sample numbers from its left end p to its right end q, of which a chain is made: by a step, if the ends stand at two positions, and the two
--- lists of that step are such lists again. The chain of the list is that of its left list, then that of its right list.
+-- lists of that step are such lists again. What the rule's steps give over the list is what they give over its left list, then over its right list.
 -- Assumes nothing.
-use mathlib.Core.Path.{_≡_, sym, ap, ap₂, _∙_, subst, subst₂}
+use mathlib.Core.Path.{_≡_, sym, ap, _∙_, subst, subst₂}
 use mathlib.Core.Logic.{_≢_}
-use mathlib.Core.List.{List, [], _∷_, _++_, map, map-append}
+use mathlib.Core.List.{List, _∷_, _++_, map}
 use Prim.Native.Nat.{ℕ, _-_, _/_, _≤_}
 use native.Mathlib.Omega.{arith}
 use lib.Signed.{ltZ}
 use lib.ListN.{length, length-map}
 use Rattle.rules.specs.Lists.{those}
 use Rattle.rules.specs.Streams.{Stream}
-use Rattle.rules.specs.Chain.{Of, LeftEnd, RightEnd, upper}
+use Rattle.rules.specs.Chain.{Of}
 use Rattle.rules.specs.Bridge.{ends}
-use Rattle.rules.specs.Step.{cut, left-list, right-list}
-use Rattle.outline.specs.Bridges.{BridgeOver}
-use Rattle.outline.specs.Prefix.{step-chain, left-list-alone, right-list-alone}
+use Rattle.rules.specs.Step.{cut, cut-bridge, left-list, right-list}
+use Rattle.outline.specs.Bridges.{BridgeOver, is-bridge}
 use Rattle.outline.specs.Steps.{Ready, ready-two, left-list-ready, right-list-ready}
 use Rattle.rounds.specs.Rounds.{Found}
-use Rattle.rounds.specs.Steps.{Halved, cut-halves, left-list-map, right-list-map}
+use Rattle.rounds.specs.Steps.{Halved, cut-halves, BySteps, one-step, left-list-map, right-list-map}
 use Rattle.step.specs.Named.{Named, named-those, named-cons, named-first}
 
 -- the numbers of the left list of i, and of the right list of j
@@ -30,14 +29,9 @@ right-numbers at j l = j ∷ those (λ x. ltZ (at j .east) (at x .east)) l
 module _ (at : ℕ → Stream) (number : Stream → ℕ) where
   pub record Chainable (l : List ℕ) (p q : ℕ) : Type 0 where
     pub started : 1 ≤ length l
-    pub alone : at p ≡ at q → upper (map at l) ≡ at p ∷ []
     pub ready : at p ≢ at q → Ready (map at l) (at p) (at q)
     pub named : Named at number l
     pub told : number (at p) ≡ p
-
-  -- the numbers of the chain of a list
-  abbrev pub chain-numbers : List ℕ → List ℕ
-  chain-numbers l = map number (upper (map at l))
 
   -- ---- the two lists of a step over its cut
 
@@ -61,10 +55,6 @@ module _ (at : ℕ → Stream) (number : Stream → ℕ) where
     left-chainable =
         record {
           started = omega arith;
-          alone = λ e.
-              sym (ap upper left-positions)
-              ∙ left-list-alone positions over (subst (LeftEnd (Of positions)) e (from-ends .left))
-              ∙ ap (λ (s : Stream). s ∷ []) (sym e);
           ready = λ g. subst (λ (xs : List Stream). Ready xs (at p) (at i)) left-positions (left-list-ready from-ends over g);
           named = named-cons at number i (those (λ x. ltZ (at x .east) (at i .east)) l) (named-first at number l (c .named) (f .first-left))
               (named-those at number (λ s. ltZ (s .east) (at i .east)) l (c .named));
@@ -75,20 +65,23 @@ module _ (at : ℕ → Stream) (number : Stream → ℕ) where
     right-chainable =
         record {
           started = omega arith;
-          alone = λ e. sym (ap upper right-positions) ∙ right-list-alone positions over (subst (RightEnd (Of positions)) (sym e) (from-ends .right));
           ready = λ g. subst (λ (xs : List Stream). Ready xs (at j) (at q)) right-positions (right-list-ready from-ends over g);
           named = named-cons at number j (those (λ x. ltZ (at j .east) (at x .east)) l) (named-first at number l (c .named) (f .first-right))
               (named-those at number (λ s. ltZ (at j .east) (s .east)) l (c .named));
           told = named-first at number l (c .named) (f .first-right);
         }
 
-    pub chain-splits : chain-numbers l ≡ chain-numbers (left-numbers at i l) ++ chain-numbers (right-numbers at j l)
-    chain-splits =
-        ap (map number) (step-chain positions over ∙ ap₂ (λ (xs ys : List Stream). upper xs ++ upper ys) left-positions right-positions)
-        ∙ map-append number (upper (map at (left-numbers at i l))) (upper (map at (right-numbers at j l)))
-
     halves : Halved positions (at i) (at j)
     halves = cut-halves positions (ready-two from-ends) over
+
+    -- the step is the rule's own: its bridge is over the list's cut, and its two lists are the rule's
+    pub steps-on : {C D : List Stream} → BySteps (map at (left-numbers at i l)) (at p) (at i) C → BySteps (map at (right-numbers at j l)) (at j) (at q) D
+        → BySteps positions (at p) (at q) (C ++ D)
+    unfolding cut-bridge
+    steps-on {C} {D} left right =
+        one-step far (is-bridge positions over) halves
+        (subst (λ (xs : List Stream). BySteps xs (at p) (at i) C) (sym left-positions) left)
+        (subst (λ (xs : List Stream). BySteps xs (at j) (at q) D) (sym right-positions) right)
 
     long : (xs : List Stream) (k : List ℕ) → xs ≡ map at k → length xs ≡ length k
     long xs k e = ap (λ (ys : List Stream). length ys) e ∙ length-map k at

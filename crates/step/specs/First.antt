@@ -10,18 +10,17 @@ use lib.IntN.{ℤ, pos}
 use lib.ListN.{length, drop, length-map, List·getD-map}
 use Rattle.rules.specs.Lists.{those}
 use Rattle.rules.specs.Streams.{Stream, stream, streams, sample, mirrored}
-use Rattle.rules.specs.Chain.{Of, RightEnd, upper}
+use Rattle.rules.specs.Chain.{upper}
 use Rattle.rules.specs.Step.{first-list}
-use Rattle.outline.specs.Prefix.{one-corner, first-list-chain}
 use Rattle.outline.specs.Steps.{Ready, first-list-ready}
-use Rattle.rounds.specs.Steps.{first-list-map}
+use Rattle.rounds.specs.Steps.{BySteps, first-steps, first-list-map}
 use Rattle.rounds.specs.WholeList.{numbers, numbers-samples}
 use Rattle.samples.specs.Positions.{at}
 use Rattle.samples.specs.Samples.{streams-length, sample-at, samples-at}
 use Rattle.step.specs.Lists.{between, first-numbers}
 use Rattle.step.specs.Ends.{EndOf, nearest, nearest-is}
 use Rattle.step.specs.Named.{Named, named-those, named-cons, named-first, named-samples}
-use Rattle.step.specs.Chaining.{Chainable, chain-numbers}
+use Rattle.step.specs.Chaining.{Chainable}
 use Rattle.step.specs.Stepping.{facing, number-at}
 
 -- ---- the samples of a side by their numbers
@@ -71,10 +70,6 @@ module _ (es ns : List ℤ) (even : length es ≡ length ns) where
     first-chainable =
         record {
           started = omega arith;
-          alone = λ e.
-              sym (ap upper first-positions)
-              ∙ first-list-chain (h .is-end) (k .is-end)
-              ∙ one-corner (h .is-end) (subst (RightEnd (Of (map to all))) (sym e) (k .is-end));
           ready = λ g. subst (λ (xs : List Stream). Ready xs (to p) (to q)) first-positions (first-list-ready (h .is-end) (k .is-end) g);
           named = named-cons to number p (q ∷ inner) (told h) (named-cons to number q inner (told k)
               (named-those to number (λ s. between (to p .east) (to q .east) (s .east)) all (named-all lower)));
@@ -87,10 +82,10 @@ module _ (es ns : List ℤ) (even : length es ≡ length ns) where
         told : {right : Bool} {x : ℕ} → EndOf to right all x → number (to x) ≡ x
         told e = named-first to number all (named-all lower) (e .first)
 
-    pub first-chain : chain-numbers to number (first-numbers es p q) ≡ map number (upper (facing es ns lower))
-    first-chain =
-        ap (map number)
-        (sym (ap upper first-positions) ∙ first-list-chain (h .is-end) (k .is-end) ∙ ap upper (facing-all lower))
+    -- what the rule's steps give over it is the chain of all samples
+    pub first-chain : {C : List Stream} → BySteps (map to (first-numbers es p q)) (to p) (to q) C → C ≡ upper (facing es ns lower)
+    first-chain {C} b =
+        first-steps (h .is-end) (k .is-end) (subst (λ (xs : List Stream). BySteps xs (to p) (to q) C) (sym first-positions) b) ∙ ap upper (facing-all lower)
 
 -- the scan finds the ends
 pub end-is : (to : ℕ → Stream) (right : Bool) (n : ℕ) → 1 ≤ n → EndOf to right (numbers n) (nearest to right (drop 1 (numbers n)))

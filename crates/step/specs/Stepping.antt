@@ -14,8 +14,9 @@ use Rattle.rules.specs.Chain.{lowest}
 use Rattle.rules.specs.Picker.{rank}
 use Rattle.rules.specs.Bridge.{ends, spans}
 use Rattle.rounds.specs.Rounds.{Found}
+use Rattle.rounds.specs.Steps.{BySteps}
 use Rattle.samples.specs.Positions.{at, east-of, Sampled, Listed}
-use Rattle.step.specs.Chaining.{Chainable, chain-numbers}
+use Rattle.step.specs.Chaining.{Chainable}
 use Rattle.step.specs.Lists.{beyond-numbers}
 use Rattle.step.specs.declared.Stepped.{Stepped}
 use Rattle.step.specs.declared.Stepped.the-variants as stepped
@@ -115,12 +116,14 @@ pub record StepAsks (es ns : List ℤ) (lower : Bool) (w : List ℕ) (t p q : �
   pub asks : ChainAsks es ns lower w t p q
   pub far : at es ns lower p ≢ at es ns lower q
 
--- the numbers of the chain's corners stand at the front, m of them
-pub record ChainIs (at : ℕ → Stream) (number : Stream → ℕ) (l : List ℕ) (m : ℕ) (after : List ℕ) : Type 0 where
-  pub corners : take m after ≡ chain-numbers at number l
+-- the rule's steps over the list from p to q give a chain, and the numbers of its corners stand at the front, m of them
+pub record ChainIs (at : ℕ → Stream) (number : Stream → ℕ) (l : List ℕ) (p q m : ℕ) (after : List ℕ) : Type 0 where
+  pub chain : List Stream
+  pub by-steps : BySteps (map at l) (at p) (at q) chain
+  pub corners : take m after ≡ map number chain
   pub few : m ≤ length l
 
--- every such list has a chain: no step's list lacks its bridge
-abbrev pub ChainSays : (ℕ → Stream) → (Stream → ℕ) → List ℕ → Stepped → List ℕ → Type 0
-ChainSays at number l (stepped.Chain m) after = ChainIs at number l m after
-ChainSays at number l stepped.NoBridge after = ⊥
+-- no step's list lacks its bridge
+abbrev pub ChainSays : (ℕ → Stream) → (Stream → ℕ) → List ℕ → ℕ → ℕ → Stepped → List ℕ → Type 0
+ChainSays at number l p q (stepped.Chain m) after = ChainIs at number l p q m after
+ChainSays at number l p q stepped.NoBridge after = ⊥

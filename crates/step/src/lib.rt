@@ -113,7 +113,7 @@ fn split(
 // it meanwhile; then both chains stand side by side and move to the front.
 fn step(e: &[i32], n: &[i32], lower: bool, w: &mut [u32], t: usize, p: u32, q: u32) -> Stepped
     requires { ⌜ StepAsks (now e) (now n) lower (now w) t p q ⌝ }
-    ensures { λ r. ⌜ ChainSays (at (now (e .entry)) (now (n .entry)) lower) (number-at (now (e .entry)) (now (n .entry)) lower) (take t (now (w .entry))) r (now (w .exit)) ⌝ }
+    ensures { λ r. ⌜ ChainSays (at (now (e .entry)) (now (n .entry)) lower) (number-at (now (e .entry)) (now (n .entry)) lower) (take t (now (w .entry))) p q r (now (w .exit)) ⌝ }
 {
     let a = cut(e, w, t);
     let Parted::At { i, j, left, right } = split(e, n, lower, w, t, p, q, a) else {
@@ -132,28 +132,15 @@ fn step(e: &[i32], n: &[i32], lower: bool, w: &mut [u32], t: usize, p: u32, q: u
     Stepped::Chain(both)
 }
 
-// Of two samples the one further east.
-fn further(e: &[i32], x: u32, y: u32) -> u32
-    requires { ⌜ (x < length (now e)) × (y < length (now e)) ⌝ }
-    ensures { λ r. ⌜ r ≡ cond (ltZ (east-of (now (e .entry)) y) (east-of (now (e .entry)) x)) x y ⌝ }
-{
-    if east(e, y) < east(e, x) { x } else { y }
-}
-
 // The chain from p to q of the t numbers at the front of w, left at the front by the lowest sample number at each corner. Ends at one position make no
-// step; two samples at two positions are the chain themselves.
+// step.
 pub fn chain(e: &[i32], n: &[i32], lower: bool, w: &mut [u32], t: usize, p: u32, q: u32) -> Stepped
     requires { ⌜ ChainAsks (now e) (now n) lower (now w) t p q ⌝ }
-    ensures { λ r. ⌜ ChainSays (at (now (e .entry)) (now (n .entry)) lower) (number-at (now (e .entry)) (now (n .entry)) lower) (take t (now (w .entry))) r (now (w .exit)) ⌝ }
+    ensures { λ r. ⌜ ChainSays (at (now (e .entry)) (now (n .entry)) lower) (number-at (now (e .entry)) (now (n .entry)) lower) (take t (now (w .entry))) p q r (now (w .exit)) ⌝ }
 {
     if together(e, n, lower, p, q) {
         w[0] = p;
         return Stepped::Chain(1);
-    }
-    if t == 2 {
-        w[1] = further(e, w[0], w[1]);
-        w[0] = p;
-        return Stepped::Chain(2);
     }
     step(e, n, lower, w, t, p, q)
 }

@@ -13,12 +13,12 @@ use lib.ListN.{length, take, set, length-set}
 use native.Mathlib.Omega.{arith}
 use borrow.Rule.Slice.PartMut.{midOf, putMid, same-len-mid}
 use Rattle.outline.specs.Lists.{same-equal, same-no}
+use Rattle.rules.specs.Streams.{Stream}
 use Rattle.samples.specs.Positions.{at}
 use Rattle.step.specs.declared.Parted.{Parted}
 use Rattle.step.specs.declared.Stepped.{Stepped}
 use Rattle.step.specs.Stepping.{number-at, SplitSays, StepAsks, ChainIs, ChainSays}
 use Rattle.step.proofs.Sides.{some-room, alone-is, cut-asks, split-asks, over-cut, Parts, parts, spare, right-fits, left-less, left-asks, LeftMade, left-made, behind-asks, Copied, right-copied, right-starts, right-less, right-asks, BothMade, both-made, front-asks, chain-is}
-use Rattle.step.proofs.Two.{pair-below, pair-is}
 use Rattle.step.proofs.chain.Reads as chain
 use Rattle.step.proofs.chain.Kinds as chain-kinds
 use Rattle.step.proofs.+chain+step.Lts-chain as chain-lts
@@ -27,7 +27,6 @@ use Rattle.step.proofs.step.Kinds as step-kinds
 use Rattle.step.proofs.+chain+step.Lts-step as step-lts
 use Rattle.step.proofs.cut.Reads as cut-reads
 use Rattle.step.proofs.ends.together.Reads as together-reads
-use Rattle.step.proofs.further.Reads as further-reads
 use Rattle.step.proofs.moves.copy.Reads as copy-reads
 use Rattle.step.proofs.split.Reads as split-reads
 use Rattle.step.proofs.+chain+step.{statement}
@@ -52,7 +51,7 @@ abbrev step-below : ℕ → In 3 step-kinds.ps
 step-below t = and 3 step-kinds.ps (falls 3 step-kinds.ps _<_ μ-step t) step.Pre
 
 abbrev chain-claims : ℕ → chain-lts.Claims
-chain-claims t = (together-reads.Asked, together-reads.Learnt, further-reads.Asked, further-reads.Learnt, step-below t, step.Post)
+chain-claims t = (together-reads.Asked, together-reads.Learnt, step-below t, step.Post)
 
 abbrev step-claims : ℕ → step-lts.Claims
 step-claims t = (cut-reads.Asked, cut-reads.Learnt, split-reads.Asked, split-reads.Learnt, chain-below t, chain.Post, copy-reads.Asked, copy-reads.Learnt)
@@ -83,35 +82,7 @@ module _ (t : ℕ) (c : chain-lts.Else1 (chain-claims t) (chain-at t) chain.Post
       }
 
 chain-step-requires : (t : ℕ) → chain-lts.Need-step-requires (chain-claims t) (chain-at t) chain.Post
-chain-step-requires t c κs = let d = c .before .before in (omega (arith, given t d .pre .0), stepped t d)
-
--- two numbers
-
-module _ (t : ℕ) (c : chain-lts.Then2 (chain-claims t) (chain-at t) chain.Post) where
-  abbrev apart : chain-lts.Else1 (chain-claims t) (chain-at t) chain.Post
-  apart = c .before
-
-  pair-asks : let a = given t apart .args in StepAsks (a .e .now) (a .n .now) (a .lower) (a .w .now) 2 (a .p) (a .q)
-  pair-asks =
-      let a = given t apart .args in
-      subst (λ (n : ℕ). StepAsks (a .e .now) (a .n .now) (a .lower) (a .w .now) n (a .p) (a .q)) (c .if2 .taken) (stepped t apart)
-
-  pair-long : 8 ≤ length (given t apart .args .w .now)
-  pair-long = pair-asks .asks .room
-
-chain-further-requires : (t : ℕ) → chain-lts.Need-further-requires (chain-claims t) (chain-at t) chain.Post
-chain-further-requires t c κs =
-    let d = c .before .before in
-    pair-below (given t (apart t d) .args .w .now) (omega (arith, pair-long t d)) (pair-asks t d .asks .listed)
-
-chain-returns-2 : (t : ℕ) → chain-lts.Need-returns-2 (chain-claims t) (chain-at t) chain.Post
-chain-returns-2 t c =
-    let d = c .before .before .before in
-    let a = given t (apart t d) .args in
-    subst₂ (λ (n y : ℕ). ChainIs (at (a .e .now) (a .n .now) (a .lower)) (number-at (a .e .now) (a .n .now) (a .lower)) (take n (a .w .now)) 2 (set (set (a .w .now) 1 y) 0 (a .p)))
-    (sym (d .if2 .taken))
-    (sym (c .further .ensures))
-    (pair-is (a .w .now) (pair-asks t d))
+chain-step-requires t c κs = let d = c .before in (omega (arith, given t d .pre .0), stepped t d)
 
 chain-slice-write-w : (t : ℕ) → chain-lts.Need-slice-write-w (chain-claims t) (chain-at t) chain.Post
 chain-slice-write-w t c = let s = c .before .before .before in some-room (s .pre .1)
@@ -215,13 +186,13 @@ module _ (t : ℕ) (c : step-lts.After-chain (step-claims t) (step-at t) step.Po
   left-said : (r : Stepped) → c .chain .result ≡ r → let a = from t parted .args in
       let w = split t parted .split .last .1 .1 .1 .0 in
       ChainSays (at (a .e .now) (a .n .now) (a .lower)) (number-at (a .e .now) (a .n .now) (a .lower))
-      (take (left t parted) (midOf (right t parted) (length w - right t parted) w)) r (c .chain .last .1 .1 .1 .0)
+      (take (left t parted) (midOf (right t parted) (length w - right t parted) w)) (a .p) (parted .i .given .0 .0) r (c .chain .last .1 .1 .1 .0)
   left-said r e =
       let a = from t parted .args in
       let w = split t parted .split .last .1 .1 .1 .0 in
       subst
       (λ (r : Stepped). ChainSays (at (a .e .now) (a .n .now) (a .lower)) (number-at (a .e .now) (a .n .now) (a .lower))
-      (take (left t parted) (midOf (right t parted) (length w - right t parted) w)) r (c .chain .last .1 .1 .1 .0))
+      (take (left t parted) (midOf (right t parted) (length w - right t parted) w)) (a .p) (parted .i .given .0 .0) r (c .chain .last .1 .1 .1 .0))
       e
       (c .chain .ensures)
 
@@ -247,8 +218,11 @@ module _ (t : ℕ) (c : step-lts.After-u (step-claims t) (step-at t) step.Post) 
   abbrev u : ℕ
   u = c .u .given .0 .0
 
+  abbrev left-chain : List Stream
+  left-chain = left-said t lefts _ (c .u .given .1) .chain
+
   left-stands : let a = from t halved .args in
-      LeftMade (a .e .now) (a .n .now) (a .lower) (a .w .now) (a .t) (halved .i .given .0 .0) (halved .i .given .0 .1 .0) (left t halved) (right t halved) u (w₃ t lefts)
+      LeftMade (a .e .now) (a .n .now) (a .lower) (a .w .now) (a .t) (a .p) (halved .i .given .0 .0) (halved .i .given .0 .1 .0) (left t halved) (right t halved) u left-chain (w₃ t lefts)
   left-stands = left-made (stands t halved) (left-said t lefts _ (c .u .given .1)) (lefts .chain .kept .1 .1 .1 .0)
 
 step-add-m : (t : ℕ) → step-lts.Need-add-m (step-claims t) (step-at t) step.Post
@@ -267,7 +241,7 @@ module _ (t : ℕ) (c : step-lts.After-copy (step-claims t) (step-at t) step.Pos
   parts-then = halved t made
 
   behind-stands : let a = from t parts-then .args in
-      Copied (a .e .now) (a .n .now) (a .lower) (a .w .now) (a .t) (parts-then .i .given .0 .0) (parts-then .i .given .0 .1 .0) (left t parts-then) (right t parts-then) (u t made) (c .copy .last .0)
+      Copied (a .e .now) (a .n .now) (a .lower) (a .w .now) (a .t) (a .p) (parts-then .i .given .0 .0) (parts-then .i .given .0 .1 .0) (left t parts-then) (right t parts-then) (u t made) (left-chain t made) (c .copy .last .0)
   behind-stands = right-copied (stands t parts-then) (left-stands t made) (c .copy .ensures)
 
 step-mul-chain-2 : (t : ℕ) → step-lts.Need-mul-chain-2 (step-claims t) (step-at t) step.Post
@@ -305,14 +279,14 @@ module _ (t : ℕ) (c : step-lts.After-chain2 (step-claims t) (step-at t) step.P
 
   right-said : (r : Stepped) → c .chain2 .result ≡ r → let a = from t split-then .args in
       let w = behind .copy .last .0 in
-      ChainSays (at (a .e .now) (a .n .now) (a .lower)) (number-at (a .e .now) (a .n .now) (a .lower)) (take (right t split-then) (midOf m (length w - m) w)) r
-      (c .chain2 .last .1 .1 .1 .0)
+      ChainSays (at (a .e .now) (a .n .now) (a .lower)) (number-at (a .e .now) (a .n .now) (a .lower)) (take (right t split-then) (midOf m (length w - m) w))
+      (split-then .i .given .0 .1 .0) (a .q) r (c .chain2 .last .1 .1 .1 .0)
   right-said r e =
       let a = from t split-then .args in
       let w = behind .copy .last .0 in
       subst
       (λ (r : Stepped). ChainSays (at (a .e .now) (a .n .now) (a .lower)) (number-at (a .e .now) (a .n .now) (a .lower))
-      (take (right t split-then) (midOf m (length w - m) w)) r (c .chain2 .last .1 .1 .1 .0))
+      (take (right t split-then) (midOf m (length w - m) w)) (split-then .i .given .0 .1 .0) (a .q) r (c .chain2 .last .1 .1 .1 .0))
       e
       (c .chain2 .ensures)
 
@@ -335,7 +309,7 @@ module _ (t : ℕ) (c : step-lts.After-v (step-claims t) (step-at t) step.Post) 
   parts-of = split-then t rights
 
   both-stand : let a = from t parts-of .args in
-      BothMade (a .e .now) (a .n .now) (a .lower) (a .w .now) (a .t) (right t parts-of) (u t (made t (behind t rights))) (c .v .given .0 .0) (w₅ t rights)
+      BothMade (a .e .now) (a .n .now) (a .lower) (a .w .now) (a .t) (a .p) (a .q) (right t parts-of) (u t (made t (behind t rights))) (c .v .given .0 .0) (w₅ t rights)
   both-stand =
       both-made (stands t parts-of) (behind-stands t (behind t rights)) (right-said t rights _ (c .v .given .1)) (rights .chain2 .kept .1 .1 .1 .0)
 
@@ -367,15 +341,6 @@ pub +chain+step-spec : {M : Type 1} → statement M
     (chain-slice-write-w t)
     (λ c. search needs)
     (chain-returns t)
-    (λ c. omega (arith, pair-long t (c .before)))
-    (λ c. omega (arith, pair-long t (c .before .before)))
-    (chain-further-requires t)
-    (λ c. omega (arith, pair-long t (c .before .before .before)))
-    (λ c.
-    let d = c .before .before .before in
-    omega (arith, pair-long t d, length-set (given t (apart t d) .args .w .now) 1 (c .further .result)))
-    (λ c. search needs)
-    (chain-returns-2 t)
     (chain-step-requires t)
     (λ c. search needs)
     (λ c. c .before .before .step .ensures))
