@@ -23,8 +23,8 @@ use Rattle.rules.specs.Refusals.{Answer, refused, done, output-short, output-af
 use Rattle.rules.specs.Entries.{Chains, sample-tests, chains-answer}
 use Rattle.outline.specs.Lists.{at-place-in, member-counts, is-some-of, first-place-in, first-place-passes, first-place-first, is-first-place, not-both, same-equal, equal-same, no-same}
 use Rattle.outline.specs.Chains.{upper-is, upper-only, upper-corners, upper-edge, upper-turn}
+use Rattle.outline.specs.Numbers.{lower-mirrored}
 use Rattle.samples.specs.Samples.{streams-length}
-use Rattle.chains.specs.Mirrored.{lower-mirrored}
 use Rattle.chains.specs.Promise.{Counts, answer-as, counted}
 use Rattle.chains.specs.declared.ChainsAnswer.{ChainsAnswer}
 use Rattle.chains.specs.declared.ChainsAnswer.the-variants as said
@@ -67,8 +67,14 @@ pub record Call : Type 1 where
   pub promised : reads.Post lifetimes given answer left
 
 -- the samples that it is given, and the two outputs as it leaves them
+abbrev pub east : Call → List ℤ
+east c = now (c .given .0)
+
+abbrev pub north : Call → List ℤ
+north c = now (c .given .1 .0)
+
 abbrev pub samples : Call → List Stream
-samples c = streams (now (c .given .0)) (now (c .given .1 .0))
+samples c = streams (east c) (north c)
 
 abbrev pub upper-after : Call → List ℕ
 upper-after c = now (c .left .1 .1 .0)

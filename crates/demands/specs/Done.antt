@@ -1,10 +1,17 @@
--- What an entry that is done says: none of its tests held, and the answer is what it was to be. Assumes nothing.
-use mathlib.Core.Path.{_≡_, refl, ap, _∙_}
+-- What an entry that is done says: none of its tests held, and the answer is what it was to be; a ring that it writes stands at the front of both outputs.
+-- Assumes nothing.
+use mathlib.Core.Path.{_≡_, refl, sym, ap, ap₂, _∙_}
 use mathlib.Core.Bool.{Bool, true, false, cond}
 use mathlib.Core.List.{List, [], _∷_}
 use Prim.Native.Nat.{ℕ}
 use native.Mathlib.Omega.{arith}
-use Rattle.rules.specs.Refusals.{refused, done, Test, unless}
+use lib.IntN.{ℤ}
+use lib.ListN.{length, take, length-map}
+use Rattle.rules.specs.Streams.{Stream, streams}
+use Rattle.rules.specs.Refusals.{Answer, refused, done, Test, unless, output-after}
+use Rattle.rules.specs.Entries.{easts, norths, counted}
+use Rattle.samples.specs.Samples.{streams-length, streams-easts, streams-norths}
+use Rattle.samples.specs.Outputs.{counted-done, front, streams-parts}
 use Rattle.samples.specs.Tests.{None-hold}
 
 pub when-done : {A : Type 0} (ts : List Test) (x : A) {y : A} → unless ts x ≡ done y → None-hold ts × (x ≡ y)
@@ -20,3 +27,49 @@ when-done (t ∷ ts) x {y} e = go (t .holds) refl e (λ h. when-done ts x h)
 pub not-refused : {A : Type 0} (ts : List Test) (x : A) → None-hold ts → unless ts x ≡ done x
 not-refused [] x n = refl
 not-refused (t ∷ ts) x (h, n) = ap (λ (b : Bool). cond b (refused (t .number) (t .place)) (unless ts x)) h ∙ not-refused ts x n
+
+-- ---- a ring that is written
+
+-- the ring r stands at the front of two outputs, n corners
+pub record Left (r : List Stream) (n : ℕ) (east north : List ℤ) : Type 0 where
+  pub count : n ≡ length r
+  pub easts-left : take n east ≡ easts r
+  pub norths-left : take n north ≡ norths r
+
+-- the tests ts, then the ring r: what is told is its count, and what is left of the outputs is what the rules say
+pub ring-left : (ts : List Test) (r : List Stream) (east north : List ℤ) {n : ℕ} {east' north' : List ℤ} → done n ≡ counted (unless ts r)
+    → east' ≡ output-after easts (unless ts r) east → north' ≡ output-after norths (unless ts r) north → None-hold ts × Left r n east' north'
+ring-left ts r east north {n} {east'} {north'} told e f = go (counted-done (unless ts r) told)
+  where
+    go : (t : List Stream) × (unless ts r ≡ done t) × (n ≡ length t) → None-hold ts × Left r n east' north'
+    go (t, a, h) =
+        let says = when-done ts r a in
+        let answered : unless ts r ≡ done r = a ∙ ap done (sym (says .1)) in
+        let many : length r ≡ n = ap length (says .1) ∙ sym h in (
+          says .0,
+          record {
+            count = sym many;
+            easts-left =
+                ap (take n) (e ∙ ap (λ (t : Answer (List Stream)). output-after easts t east) answered) ∙
+                front (easts r) east n (length-map r (λ s. s .east) ∙ many);
+            norths-left =
+                ap (take n) (f ∙ ap (λ (t : Answer (List Stream)). output-after norths t north) answered) ∙
+                front (norths r) north n (length-map r (λ s. s .north) ∙ many);
+          },
+        )
+
+module _ {r : List Stream} {n : ℕ} {east north : List ℤ} (l : Left r n east north) where
+  pub left-even : length (take n east) ≡ length (take n north)
+  left-even = ap length (l .easts-left) ∙ length-map r (λ s. s .east) ∙ sym (ap length (l .norths-left) ∙ length-map r (λ s. s .north))
+
+  -- so it is read there again
+  pub left-ring : streams (take n east) (take n north) ≡ r
+  left-ring = ap₂ streams (l .easts-left) (l .norths-left) ∙ streams-parts r
+
+  -- where it is a ring that was given as two lists, these lists are what stands there
+  pub left-as-given : {es ns : List ℤ} → length es ≡ length ns → r ≡ streams es ns → (n ≡ length es) × (take n east ≡ es) × (take n north ≡ ns)
+  left-as-given {es} {ns} even e = (
+    l .count ∙ ap length e ∙ streams-length es ns even,
+    l .easts-left ∙ ap easts e ∙ streams-easts es ns even,
+    l .norths-left ∙ ap norths e ∙ streams-norths es ns even,
+  )

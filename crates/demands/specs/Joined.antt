@@ -2,13 +2,13 @@
 -- corners are those of the ring of all streams behind; turning about may stand among the steps, so a join turned about is the join of the turned; and a
 -- stream that a ring covers changes nothing when it is joined. A call is any that the entry's own promise allows.
 -- Assumes nothing.
-use mathlib.Core.Path.{_≡_, sym, ap, ap₂, _∙_, subst}
+use mathlib.Core.Path.{_≡_, refl, sym, ap, ap₂, _∙_, subst}
 use mathlib.Core.Logic.{_↔_}
 use mathlib.Core.Bool.{true}
 use mathlib.Core.List.{List, [], _∷_, _++_, map, map-append, List·Memᴰ}
 use Prim.Native.Nat.{ℕ, _+_}
 use lib.IntN.{ℤ}
-use lib.ListN.{length, take, length-map}
+use lib.ListN.{length, take}
 use contract.Lifetimes.{Lfts}
 use denote.Ref.{now}
 use denote.Triple.Clauses.{AtExit}
@@ -17,13 +17,13 @@ use borrow.Author.Tests.{eqb-true, not-false}
 use Rattle.rules.specs.Streams.{Stream, streams, turned}
 use Rattle.rules.specs.Ring.{ring}
 use Rattle.rules.specs.Use.{envelope, join, turn-about}
-use Rattle.rules.specs.Refusals.{Answer, done, output-after, ring-tests, not-envelope, too-many, scratch-short}
+use Rattle.rules.specs.Refusals.{ring-tests, not-envelope, too-many, scratch-short}
 use Rattle.rules.specs.Entries.{easts, norths, ring-short, join-answer}
 use Rattle.outline.specs.Chains.{ring-members}
 use Rattle.rings.specs.Rings.{envelope-ring}
 use Rattle.rings.specs.Joins.{join-rings}
 use Rattle.rings.specs.Turning.{turn-ring}
-use Rattle.samples.specs.Samples.{streams-length, streams-easts, streams-norths}
+use Rattle.samples.specs.Samples.{streams-easts, streams-norths}
 use Rattle.envelope.specs.declared.turn.Turned.the-variants as turn
 use Rattle.envelope.specs.declared.cover.Covered.the-variants as said
 use Rattle.closing.specs.Meaning.{ringed-as}
@@ -31,8 +31,10 @@ use Rattle.closing.specs.declared.Ringed.{Ringed}
 use Rattle.closing.specs.declared.Ringed.the-variants as ringed
 use Rattle.join.proofs.join.Kinds as kinds
 use Rattle.join.proofs.join.Reads as reads
-use Rattle.samples.specs.Outputs.{counted-done, front, streams-parts}
-use Rattle.demands.specs.Done.{when-done}
+use Rattle.reader.specs.declared.Corners.the-variants as read
+use Rattle.demands.specs.Done.{Left, ring-left, left-even, left-ring, left-as-given}
+use Rattle.demands.specs.Ringed as rings
+use Rattle.demands.specs.Records as records
 use Rattle.demands.specs.Turned as turns
 use Rattle.demands.specs.Covered as covers
 
@@ -44,7 +46,7 @@ pub record Joining : Type 1 where
   pub left : AtExit (endedOf 7 kinds.ps kinds.r) lifetimes
   pub promised : reads.Post lifetimes given answer left
 
--- the rings that it is given, and the two outputs as it leaves them
+-- the rings that it is given, the two outputs as they came and as it leaves them, the scratch
 abbrev pub east : Joining → List ℤ
 east c = now (c .given .0)
 
@@ -56,6 +58,15 @@ east2 c = now (c .given .1 .1 .0)
 
 abbrev pub north2 : Joining → List ℤ
 north2 c = now (c .given .1 .1 .1 .0)
+
+abbrev pub east-before : Joining → List ℤ
+east-before c = now (c .given .1 .1 .1 .1 .0)
+
+abbrev pub north-before : Joining → List ℤ
+north-before c = now (c .given .1 .1 .1 .1 .1 .0)
+
+abbrev pub scratch : Joining → List ℕ
+scratch c = now (c .given .1 .1 .1 .1 .1 .1 .0)
 
 abbrev pub east-after : Joining → List ℤ
 east-after c = now (c .left .1 .1 .1 .1 .0)
@@ -72,81 +83,61 @@ pub record Joined-up (c : Joining) (n : ℕ) : Type 0 where
   pub even2 : length (east2 c) ≡ length (north2 c)
   pub ring-given : envelope (streams (east c) (north c)) ≡ true
   pub ring2-given : envelope (streams (east2 c) (north2 c)) ≡ true
-  pub count : n ≡ length (both c)
-  pub easts-left : take n (east-after c) ≡ easts (both c)
-  pub norths-left : take n (north-after c) ≡ norths (both c)
+  pub left : Left (both c) n (east-after c) (north-after c)
 
 pub joining-done : (c : Joining) {n : ℕ} → c .answer ≡ ringed.Corners n → Joined-up c n
 unfolding join-answer
-joining-done c {n} e = go (counted-done (join-answer (east c) (north c) (east2 c) (north2 c) oe on w) (sym (ap ringed-as e) ∙ c .promised .says))
-  where
-    oe : List ℤ
-    oe = now (c .given .1 .1 .1 .1 .0)
-
-    on : List ℤ
-    on = now (c .given .1 .1 .1 .1 .1 .0)
-
-    w : List ℕ
-    w = now (c .given .1 .1 .1 .1 .1 .1 .0)
-
-    m : ℕ
-    m = length (east c) + length (east2 c)
-
-    go : (t : List Stream) × (join-answer (east c) (north c) (east2 c) (north2 c) oe on w ≡ done t) × (n ≡ length t) → Joined-up c n
-    go (t, a, h) =
-        let says = when-done
-        (ring-tests (east c) (north c)
-        ++ (not-envelope (east c) (north c) ∷ [])
-        ++ ring-tests (east2 c) (north2 c)
-        ++ (not-envelope (east2 c) (north2 c) ∷ too-many m ∷ scratch-short m w ∷ ring-short oe on (both c) ∷ []))
-        (both c) a in
-        let answered : join-answer (east c) (north c) (east2 c) (north2 c) oe on w ≡ done (both c) = a ∙ ap done (sym (says .1)) in
-        let many : length (both c) ≡ n = ap length (says .1) ∙ sym h in
-        record {
-          even = eqb-true (length (east c)) (length (north c)) (not-false _ (says .0 .0));
-          even2 = eqb-true (length (east2 c)) (length (north2 c)) (not-false _ (says .0 .1 .1 .1 .1 .0));
-          ring-given = not-false _ (says .0 .1 .1 .1 .0);
-          ring2-given = not-false _ (says .0 .1 .1 .1 .1 .1 .1 .1 .0);
-          count = sym many;
-          easts-left =
-              ap (take n) (c .promised .east-after ∙ ap (λ (t : Answer (List Stream)). output-after easts t oe) answered) ∙
-              front (easts (both c)) oe n (length-map (both c) (λ s. s .east) ∙ many);
-          norths-left =
-              ap (take n) (c .promised .north-after ∙ ap (λ (t : Answer (List Stream)). output-after norths t on) answered) ∙
-              front (norths (both c)) on n (length-map (both c) (λ s. s .north) ∙ many);
-        }
+joining-done c {n} e =
+    let m = length (east c) + length (east2 c) in
+    let d = ring-left
+    (ring-tests (east c) (north c)
+    ++ (not-envelope (east c) (north c) ∷ [])
+    ++ ring-tests (east2 c) (north2 c)
+    ++ (not-envelope (east2 c) (north2 c)
+    ∷ too-many m
+    ∷ scratch-short m (scratch c)
+    ∷ ring-short (east-before c) (north-before c) (both c)
+    ∷ []))
+    (both c)
+    (east-before c)
+    (north-before c)
+    (sym (ap ringed-as e) ∙ c .promised .says)
+    (c .promised .east-after)
+    (c .promised .north-after) in
+    record {
+      even = eqb-true (length (east c)) (length (north c)) (not-false _ (d .0 .0));
+      even2 = eqb-true (length (east2 c)) (length (north2 c)) (not-false _ (d .0 .1 .1 .1 .1 .0));
+      ring-given = not-false _ (d .0 .1 .1 .1 .0);
+      ring2-given = not-false _ (d .0 .1 .1 .1 .1 .1 .1 .1 .0);
+      left = d .1;
+    }
 
 -- ---- any number of steps
 
--- a ring that comes of calls that are done, and all streams behind it: an envelope of some streams, two rings joined, or one turned about
+-- a ring that comes of calls that are done, and all streams behind it: the ring of samples, a record that was read, two rings joined, or one turned about
 pub data Made : List Stream → List ℤ → List ℤ → Type 1 where
-  enveloped : (xs : List Stream) {es ns : List ℤ} → length es ≡ length ns → streams es ns ≡ ring xs → Made xs es ns
+  ringed-by : (c : rings.Ringing) {n : ℕ} → c .answer ≡ ringed.Corners n
+      → Made (rings.samples c) (take n (rings.east-after c)) (take n (rings.north-after c))
+  read-by : (c : records.Reading) {n : ℕ} → c .answer ≡ read.Read n
+      → Made (records.corners c) (take n (records.east-after c)) (take n (records.north-after c))
   joined-by : {xs ys : List Stream} (c : Joining) {n : ℕ} → c .answer ≡ ringed.Corners n → Made xs (east c) (north c) → Made ys (east2 c) (north2 c)
       → Made (xs ++ ys) (take n (east-after c)) (take n (north-after c))
   turned-by : {xs : List Stream} (c : turns.Turning) {n : ℕ} → c .answer ≡ turn.Corners n → Made xs (turns.east c) (turns.north c)
       → Made (map turned xs) (take n (turns.east-after c)) (take n (turns.north-after c))
 
--- parts that are those of a ring
+-- two lists that are the parts of a ring
 record Parts (r : List Stream) (es ns : List ℤ) : Type 0 where
   even : length es ≡ length ns
   ring-is : streams es ns ≡ r
 
-parts-of : {r : List Stream} {es ns : List ℤ} → es ≡ easts r → ns ≡ norths r → Parts r es ns
-parts-of {r} e h = record {
-  even = ap length e ∙ length-map r (λ s. s .east) ∙ sym (ap length h ∙ length-map r (λ s. s .north));
-  ring-is = ap₂ streams e h ∙ streams-parts r;
-}
+parts-of : {r R : List Stream} {n : ℕ} {es ns : List ℤ} → Left r n es ns → r ≡ R → Parts R (take n es) (take n ns)
+parts-of l e = record { even = left-even l; ring-is = left-ring l ∙ e }
 
 made : {xs : List Stream} {es ns : List ℤ} → Made xs es ns → Parts (ring xs) es ns
-made (enveloped xs e h) = record { even = e; ring-is = h }
-made (joined-by {xs} {ys} c e a b) =
-    let d = joining-done c e in
-    let r = ap₂ join (made a .ring-is) (made b .ring-is) ∙ join-rings xs ys in
-    parts-of (d .easts-left ∙ ap easts r) (d .norths-left ∙ ap norths r)
-made (turned-by {xs} c e a) =
-    let d = turns.turning-done c e in
-    let r = ap turn-about (made a .ring-is) ∙ turn-ring xs in
-    parts-of (d .easts-left ∙ ap easts r) (d .norths-left ∙ ap norths r)
+made (ringed-by c e) = parts-of (rings.ringing-done c e .left) refl
+made (read-by c e) = let d = records.reading-done c e in parts-of (d .left) (sym (envelope-ring (records.corners c) .0 (d .ring-read)))
+made (joined-by {xs} {ys} c e a b) = parts-of (joining-done c e .left) (ap₂ join (made a .ring-is) (made b .ring-is) ∙ join-rings xs ys)
+made (turned-by {xs} c e a) = parts-of (turns.turning-done c e .left) (ap turn-about (made a .ring-is) ∙ turn-ring xs)
 
 -- THE LAW: the corners are those of the ring of all streams behind
 pub made-ring : {xs : List Stream} {es ns : List ℤ} → Made xs es ns → streams es ns ≡ ring xs
@@ -176,8 +167,4 @@ unfolding join
 covered-changes-nothing k y c {n} e h g =
     let d = joining-done c e in
     let r : ring (covers.corners k) ≡ covers.corners k = envelope-ring (covers.corners k) .0 (ap envelope (sym h) ∙ d .ring-given) in
-    let s : both c ≡ streams (east c) (north c) = ap₂ join h g ∙ covers.covered-behind k y (covers.corners k) r ∙ r ∙ sym h in (
-      d .count ∙ ap length s ∙ streams-length (east c) (north c) (d .even),
-      d .easts-left ∙ ap easts s ∙ streams-easts (east c) (north c) (d .even),
-      d .norths-left ∙ ap norths s ∙ streams-norths (east c) (north c) (d .even),
-    )
+    left-as-given (d .left) (d .even) (ap₂ join h g ∙ covers.covered-behind k y (covers.corners k) r ∙ r ∙ sym h)

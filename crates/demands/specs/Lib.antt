@@ -1,7 +1,10 @@
 pub mod Done
 pub mod Chains
+pub mod Ringed
+pub mod Records
 pub mod Joined
 pub mod Turned
+pub mod About
 pub mod Strongest
 pub mod Covered
 pub mod Contracts

@@ -1,0 +1,79 @@
+-- The record reader, over the promise of the entry: a call that is done leaves the record's corners, which are an envelope, at the front of both outputs. A
+-- call is any that the entry's own promise allows. Assumes nothing.
+use mathlib.Core.Path.{_≡_, sym, ap, _∙_}
+use mathlib.Core.Bool.{true, not, _||_}
+use mathlib.Core.List.{List, [], _∷_}
+use Prim.Native.Nat.{ℕ, _-_, _%_}
+use lib.IntN.{ℤ}
+use lib.Dec.{ltb, eqb}
+use lib.ListN.{length}
+use contract.Lifetimes.{Lfts}
+use denote.Ref.{now}
+use denote.Triple.Clauses.{AtExit}
+use borrow.Fn.Kinds.{Dens, endedOf}
+use borrow.Author.Tests.{not-false}
+use Rattle.rules.specs.Streams.{Stream}
+use Rattle.rules.specs.Use.{envelope}
+use Rattle.rules.specs.Record.{version, said-length}
+use Rattle.rules.specs.Refusals.{test, too-many, part-beyond}
+use Rattle.rules.specs.Entries.{ring-short, record-corners, record-answer}
+use Rattle.reader.specs.Meaning.{corners-as}
+use Rattle.reader.specs.declared.Corners.{Corners}
+use Rattle.reader.specs.declared.Corners.the-variants as said
+use Rattle.reader.proofs.read_record.Kinds as kinds
+use Rattle.reader.proofs.read_record.Reads as reads
+use Rattle.demands.specs.Done.{Left, ring-left}
+
+-- a call of the reader
+pub record Reading : Type 1 where
+  pub lifetimes : Lfts 3
+  pub given : Dens lifetimes kinds.ps
+  pub answer : Corners
+  pub left : AtExit (endedOf 3 kinds.ps kinds.r) lifetimes
+  pub promised : reads.Post lifetimes given answer left
+
+-- the record that it is given, its corners, the two outputs as they came and as it leaves them
+abbrev pub bytes : Reading → List ℕ
+bytes c = now (c .given .0)
+
+abbrev pub corners : Reading → List Stream
+corners c = record-corners (bytes c)
+
+abbrev pub east-before : Reading → List ℤ
+east-before c = now (c .given .1 .0)
+
+abbrev pub north-before : Reading → List ℤ
+north-before c = now (c .given .1 .1 .0)
+
+abbrev pub east-after : Reading → List ℤ
+east-after c = now (c .left .1 .0)
+
+abbrev pub north-after : Reading → List ℤ
+north-after c = now (c .left .1 .1 .0)
+
+-- what a call that is done did
+pub record Read-up (c : Reading) (n : ℕ) : Type 0 where
+  pub ring-read : envelope (corners c) ≡ true
+  pub left : Left (corners c) n (east-after c) (north-after c)
+
+pub reading-done : (c : Reading) {n : ℕ} → c .answer ≡ said.Read n → Read-up c n
+unfolding record-answer
+reading-done c {n} e =
+    let bs = bytes c in
+    let r = corners c in
+    let d = ring-left
+    (test 17 0 (eqb (length bs) 0)
+    ∷ test 16 0 (not (eqb (version bs) 1))
+    ∷ test 17 0 (ltb (length bs) 5 || not (eqb (said-length bs % 8) 0) || not (eqb (said-length bs) (length bs - 5)))
+    ∷ too-many (length r)
+    ∷ part-beyond r
+    ∷ test 9 0 (not (envelope r))
+    ∷ ring-short (east-before c) (north-before c) r
+    ∷ [])
+    r
+    (east-before c)
+    (north-before c)
+    (sym (ap corners-as e) ∙ c .promised .0)
+    (c .promised .1 .0)
+    (c .promised .1 .1) in
+    record { ring-read = not-false _ (d .0 .1 .1 .1 .1 .1 .0); left = d .1 }
