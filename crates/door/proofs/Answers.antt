@@ -12,7 +12,7 @@ use lib.Seq.{drop-cons}
 use lib.Ieee.{Float, nan}
 use denote.Enum.Declared.{tagOf}
 use types.Run.{OneOf}
-use Rattle.rules.specs.Door.{PartIs, whole, not-a-number, too-large, fraction, part, Readings, and-then, readings}
+use Rattle.rules.specs.Door.{PartIs, whole, no, no-float, part, Readings, and-then, readings}
 use Rattle.door.specs.declared.ReadingsAnswer.{ReadingsAnswer}
 use Rattle.door.specs.declared.ReadingsAnswer.the-variants.{Done, Refused, RefusedFloat}
 use Rattle.door.specs.Meaning.{refusal-of, first-refusal, whole-of, wholes, readings-as}
@@ -37,22 +37,18 @@ refusal-first (RefusedFloat number place x) s k = refl
 module _ (i : ℕ) (xs ys : List ℤ) where
   bad-first : (p q : PartIs) (rest : Readings) → IsRefusal (first-refusal (refusal-of p i) (refusal-of q i)) →
       readings-as xs ys (first-refusal (refusal-of p i) (refusal-of q i)) ≡ and-then i p q rest
-  bad-first not-a-number q rest k = refl
-  bad-first (too-large x) q rest k = refl
-  bad-first (fraction x) q rest k = refl
-  bad-first (whole x) not-a-number rest k = refl
-  bad-first (whole x) (too-large y) rest k = refl
-  bad-first (whole x) (fraction y) rest k = refl
+  bad-first (no number) q rest k = refl
+  bad-first (no-float number x) q rest k = refl
+  bad-first (whole x) (no number) rest k = refl
+  bad-first (whole x) (no-float number y) rest k = refl
   bad-first (whole x) (whole y) rest k = absurd (not-done 1 k)
 
   taken-first : (p q : PartIs) (count : ℕ) (r : ReadingsAnswer) → first-refusal (refusal-of p i) (refusal-of q i) ≡ Done count →
       readings-as (whole-of p ∷ xs) (whole-of q ∷ ys) r ≡ and-then i p q (readings-as xs ys r)
-  taken-first not-a-number q count r e = cc
-  taken-first (too-large x) q count r e = cc
-  taken-first (fraction x) q count r e = cc
-  taken-first (whole x) not-a-number count r e = cc
-  taken-first (whole x) (too-large y) count r e = cc
-  taken-first (whole x) (fraction y) count r e = cc
+  taken-first (no number) q count r e = cc
+  taken-first (no-float number x) q count r e = cc
+  taken-first (whole x) (no number) count r e = cc
+  taken-first (whole x) (no-float number y) count r e = cc
   taken-first (whole x) (whole y) count (Done n) e = refl
   taken-first (whole x) (whole y) count (Refused number place) e = refl
   taken-first (whole x) (whole y) count (RefusedFloat number place z) e = refl

@@ -16,7 +16,7 @@ use lib.Ieee.Back.{round-whole}
 use lib.Ieee.Casts.{toSigned-cut}
 use borrow.Author.Tests.{ltb-false, eqb-true, eqb-false, lt-ltb, le-ltb, le-leb, eq-eqb, ne-eqb, not-true, not-false}
 use Rattle.rules.specs.Streams.{limit}
-use Rattle.rules.specs.Door.{whole, not-a-number, too-large, fraction, signed, part}
+use Rattle.rules.specs.Door.{whole, no, no-float, signed, part}
 use Rattle.door.specs.Exactly.{size-within}
 
 abbrev pub most-float : Bool → Float
@@ -27,18 +27,18 @@ zero-float = fin false 0 (pos 0)
 
 -- ---- not a number, and beyond the limit
 
-pub not-number : (x : Float) → ne x x ≡ true → not-a-number ≡ part x
+pub not-number : (x : Float) → ne x x ≡ true → no 12 ≡ part x
 unfolding part
 not-number x h = ap part (sym (differs-from-itself x (subst T (sym h) tt)))
 
-pub too-low : (x : Float) → lt x (most-float true) ≡ true → too-large x ≡ part x
+pub too-low : (x : Float) → lt x (most-float true) ≡ true → no-float 13 x ≡ part x
 unfolding part lt
 too-low nan h = absurd (false≢true h)
 too-low (inf s) h = refl
 too-low (fin false m e) h = absurd (false≢true h)
 too-low (fin true m e) h = rw (rw mul-one at h)
 
-pub too-high : (x : Float) → lt (most-float false) x ≡ true → too-large x ≡ part x
+pub too-high : (x : Float) → lt (most-float false) x ≡ true → no-float 13 x ≡ part x
 unfolding part lt
 too-high nan h = absurd (false≢true h)
 too-high (inf s) h = refl
@@ -144,7 +144,7 @@ equals-truncated : (s : Bool) (m : ℕ) (e : ℤ) → m * up e ≤ limit * down 
     eq (ofInt binary64 (toSigned 63 (fin s m e))) (fin s m e) ≡ eqb (m * up e % down e) 0
 equals-truncated s m e h = rw (whole-part s m e h) (equals-signed s (m * up e / down e) m e refl (size-within m e h))
 
-pub fraction-found : (x : Float) → Within x → ne (ofInt binary64 (toSigned 63 x)) x ≡ true → fraction x ≡ part x
+pub fraction-found : (x : Float) → Within x → ne (ofInt binary64 (toSigned 63 x)) x ≡ true → no-float 14 x ≡ part x
 unfolding part ne
 fraction-found (fin s m e) h t =
     let r = sym (equals-truncated s m e h) ∙ not-true _ t in

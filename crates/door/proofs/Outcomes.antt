@@ -2,12 +2,14 @@
 -- and, of the door over two lists, the content of both outputs afterwards.
 -- Assumes nothing.
 use mathlib.Core.Path.{_≡_, refl, sym, _∙_}
+use mathlib.Core.Bool.{cond}
 use mathlib.Mathlib.Logic.Function.Defs.{LeftInverse·injective}
+use lib.Dec.{eqb}
 use contract.Lifetimes.{Lfts}
 use denote.Ref.{now}
 use denote.Triple.Clauses.{AtExit}
 use borrow.Fn.Kinds.{Dens, endedOf}
-use Rattle.rules.specs.Door.{PartIs, whole, not-a-number, too-large, fraction}
+use Rattle.rules.specs.Door.{PartIs, whole, no, no-float}
 use Rattle.rules.specs.Entries.{DoorAnswer, door-done, door-refused, door-refused-float}
 use Rattle.door.specs.declared.PartAnswer.{PartAnswer}
 use Rattle.door.specs.declared.PartAnswer.the-variants.{Whole, NotANumber, TooLarge, Fraction}
@@ -21,11 +23,11 @@ use Rattle.door.proofs.take_readings.Reads as take-reads
 
 -- ---- an answer can be read back from what it says in the rules' words
 
+-- 13 and 14 are told apart by their number
 part-from : PartIs → PartAnswer
 part-from (whole z) = Whole z
-part-from not-a-number = NotANumber
-part-from (too-large x) = TooLarge x
-part-from (fraction x) = Fraction x
+part-from (no number) = NotANumber
+part-from (no-float number x) = cond (eqb number 13) (TooLarge x) (Fraction x)
 
 part-back : (p : PartAnswer) → part-from (part-as p) ≡ p
 unfolding part-from

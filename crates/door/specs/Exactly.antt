@@ -13,7 +13,7 @@ use lib.Ieee.Fits.{down-pos}
 use lib.Ieee.Exact.{HasValue}
 use borrow.Author.Tests.{le-ltb, ltb-false, eqb-true}
 use Rattle.rules.specs.Streams.{limit}
-use Rattle.rules.specs.Door.{whole, too-large, fraction, signed, part}
+use Rattle.rules.specs.Door.{whole, no-float, signed, part}
 
 pub size-within : (m : ℕ) (e : ℤ) → m * up e ≤ limit * down e → m * up e / down e ≤ limit
 size-within m e h = div-le-of-le-mul (down e) (omega arith)
@@ -39,7 +39,7 @@ taken-only-if (inf s) z e = let no-way : _≡_ {A = ℕ} 0 1 = cc in absurd (ome
 taken-only-if (fin s m e) z t = by-tests (ltb (limit * down e) (m * up e)) refl (eqb (m * up e % down e) 0) refl t
   where
     by-tests : (b : Bool) → ltb (limit * down e) (m * up e) ≡ b → (c : Bool) → eqb (m * up e % down e) 0 ≡ c →
-        cond b (too-large (fin s m e)) (cond c (whole (signed s (m * up e / down e))) (fraction (fin s m e))) ≡ whole z →
+        cond b (no-float 13 (fin s m e)) (cond c (whole (signed s (m * up e / down e))) (no-float 14 (fin s m e))) ≡ whole z →
         Taken (fin s m e) z
     by-tests true p c q u = let no-way : _≡_ {A = ℕ} 0 1 = cc in absurd (omega arith)
     by-tests false p false q u = let no-way : _≡_ {A = ℕ} 0 1 = cc in absurd (omega arith)

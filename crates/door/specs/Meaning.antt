@@ -4,19 +4,19 @@ use mathlib.Core.List.{List, map}
 use Prim.Native.Nat.{ℕ}
 use lib.IntN.{ℤ, pos}
 use lib.Ieee.{Float}
-use Rattle.rules.specs.Door.{PartIs, whole, not-a-number, too-large, fraction, part-number, part, Readings, taken, bad, bad-float}
+use Rattle.rules.specs.Door.{PartIs, whole, no, no-float, part, Readings, taken, bad, bad-float}
 use Rattle.rules.specs.Entries.{DoorAnswer, door-done, door-refused, door-refused-float}
 use Rattle.door.specs.declared.PartAnswer.{PartAnswer}
 use Rattle.door.specs.declared.PartAnswer.the-variants.{Whole, NotANumber, TooLarge, Fraction}
 use Rattle.door.specs.declared.ReadingsAnswer.{ReadingsAnswer}
 use Rattle.door.specs.declared.ReadingsAnswer.the-variants.{Done, Refused, RefusedFloat}
 
--- a part's answer
+-- a part's answer, with the rules' number for each that is not taken
 abbrev pub part-as : PartAnswer → PartIs
 part-as (Whole z) = whole z
-part-as NotANumber = not-a-number
-part-as (TooLarge x) = too-large x
-part-as (Fraction x) = fraction x
+part-as NotANumber = no 12
+part-as (TooLarge x) = no-float 13 x
+part-as (Fraction x) = no-float 14 x
 
 -- what the door answers over two lists
 abbrev pub door-as : ReadingsAnswer → DoorAnswer
@@ -29,9 +29,8 @@ door-as (RefusedFloat number place x) = door-refused-float number place x
 -- a part's refusal at a place, or that it is taken
 abbrev pub refusal-of : PartIs → ℕ → ReadingsAnswer
 refusal-of (whole z) i = Done 1
-refusal-of not-a-number i = Refused (part-number not-a-number) i
-refusal-of (too-large x) i = RefusedFloat (part-number (too-large x)) i x
-refusal-of (fraction x) i = RefusedFloat (part-number (fraction x)) i x
+refusal-of (no number) i = Refused number i
+refusal-of (no-float number x) i = RefusedFloat number i x
 
 -- the first of two that is a refusal
 abbrev pub first-refusal : ReadingsAnswer → ReadingsAnswer → ReadingsAnswer
@@ -42,9 +41,8 @@ first-refusal (RefusedFloat number place x) r = RefusedFloat number place x
 -- the whole number that a part is taken as; no entry reads it of a part that is not taken
 abbrev pub whole-of : PartIs → ℤ
 whole-of (whole z) = z
-whole-of not-a-number = pos 0
-whole-of (too-large x) = pos 0
-whole-of (fraction x) = pos 0
+whole-of (no number) = pos 0
+whole-of (no-float number x) = pos 0
 
 unfoldable pub wholes : List Float → List ℤ
 wholes xs = map (λ x. whole-of (part x)) xs

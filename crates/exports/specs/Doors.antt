@@ -3,7 +3,7 @@
 use lib.IntN.{pos}
 use lib.Ieee.{Float, fin}
 use mathlib.Core.Bool.{false}
-use Rattle.rules.specs.Door.{PartIs, whole, not-a-number, too-large, fraction, part-number}
+use Rattle.rules.specs.Door.{PartIs, whole, no, no-float}
 use Rattle.rules.specs.Entries.{DoorAnswer, door-done, door-refused, door-refused-float}
 use Rattle.exports.specs.declared.doors.PartTaken.{PartTaken}
 use Rattle.exports.specs.declared.doors.ReadingsTaken.{ReadingsTaken}
@@ -13,10 +13,9 @@ abbrev pub nothing : Float
 nothing = fin false 0 (pos 0)
 
 abbrev pub part-face : PartIs → PartTaken
-part-face (whole z) = record { number = part-number (whole z); value = z; back = nothing }
-part-face not-a-number = record { number = part-number not-a-number; value = pos 0; back = nothing }
-part-face (too-large x) = record { number = part-number (too-large x); value = pos 0; back = x }
-part-face (fraction x) = record { number = part-number (fraction x); value = pos 0; back = x }
+part-face (whole z) = record { number = 0; value = z; back = nothing }
+part-face (no number) = record { number = number; value = pos 0; back = nothing }
+part-face (no-float number x) = record { number = number; value = pos 0; back = x }
 
 abbrev pub readings-face : DoorAnswer → ReadingsTaken
 readings-face (door-done count) = record { number = 0; place = 0; count = count; back = nothing }

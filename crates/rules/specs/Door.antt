@@ -11,30 +11,22 @@ use lib.Dec.{ltb, eqb}
 use lib.Ieee.{Float, nan, inf, fin, up, down}
 use Rattle.rules.specs.Streams.{limit}
 
--- what the door makes of one float
+-- what the door makes of one float: the whole number that it is taken as; or the refusal's number; or this with the float itself
 pub data PartIs : Type 0 where
   whole : ℤ → PartIs
-  not-a-number : PartIs
-  too-large : Float → PartIs
-  fraction : Float → PartIs
-
--- the number of each case, 0 for a part that is taken
-abbrev pub part-number : PartIs → ℕ
-part-number (whole z) = 0
-part-number not-a-number = 12
-part-number (too-large f) = 13
-part-number (fraction f) = 14
+  no : (number : ℕ) → PartIs
+  no-float : (number : ℕ) → Float → PartIs
 
 abbrev pub signed : Bool → ℕ → ℤ
 signed true n = negℤ (pos n)
 signed false n = pos n
 
 unfoldable pub part : Float → PartIs
-part nan = not-a-number
-part (inf s) = too-large (inf s)
+part nan = no 12
+part (inf s) = no-float 13 (inf s)
 part (fin s m e) =
-    cond (ltb (limit * down e) (m * up e)) (too-large (fin s m e))
-    (cond (eqb (m * up e % down e) zero) (whole (signed s (m * up e / down e))) (fraction (fin s m e)))
+    cond (ltb (limit * down e) (m * up e)) (no-float 13 (fin s m e))
+    (cond (eqb (m * up e % down e) zero) (whole (signed s (m * up e / down e))) (no-float 14 (fin s m e)))
 
 -- what two lists give: the parts that were taken, east and north; or the first bad reading, its number and place; or these with the float itself
 pub data Readings : Type 0 where
@@ -44,12 +36,10 @@ pub data Readings : Type 0 where
 
 -- one reading before the others, of which the place counts from the one before
 abbrev pub and-then : ℕ → PartIs → PartIs → Readings → Readings
-and-then i not-a-number n r = bad (part-number not-a-number) i
-and-then i (too-large f) n r = bad-float (part-number (too-large f)) i f
-and-then i (fraction f) n r = bad-float (part-number (fraction f)) i f
-and-then i (whole x) not-a-number r = bad (part-number not-a-number) i
-and-then i (whole x) (too-large f) r = bad-float (part-number (too-large f)) i f
-and-then i (whole x) (fraction f) r = bad-float (part-number (fraction f)) i f
+and-then i (no k) n r = bad k i
+and-then i (no-float k f) n r = bad-float k i f
+and-then i (whole x) (no k) r = bad k i
+and-then i (whole x) (no-float k f) r = bad-float k i f
 and-then i (whole x) (whole y) (taken es ns) = taken (x ∷ es) (y ∷ ns)
 and-then i (whole x) (whole y) (bad k p) = bad k p
 and-then i (whole x) (whole y) (bad-float k p f) = bad-float k p f
