@@ -1,6 +1,6 @@
 -- The contract of each entry is the promise that its specs state, which cites the rules' answer: of what is given (a), what is answered (r), and what is left
--- of all that is lent (s). A contract of several equations is their product. The program's own functions are not here: no crate can depend on a program.
--- Assumes nothing.
+-- of all that is lent (s). A contract of several equations is their product. The C face and the program have theirs in a `Contracts` of their own, as no other
+-- crate can name their functions. Assumes nothing.
 use mathlib.Core.Path.{_≡_, refl}
 use Prim.Native.Nat.{ℕ}
 use lib.ListN.{length}
