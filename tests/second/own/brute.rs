@@ -2,8 +2,14 @@
 
 use std::collections::BTreeSet;
 
-use crate::rules::chain::{at, side, Position};
+use crate::rules::chain::{at, Position};
 use crate::rules::round::Said;
+
+/// Twice the area of the triangle p, q, r, by the areas below its sides: above zero where it is gone round to the left, and r lies left of the way from p to q.
+fn side(p: Position, q: Position, r: Position) -> i128 {
+    let below = |from: Position, to: Position| (from.east as i128 - to.east as i128) * (from.north as i128 + to.north as i128);
+    below(p, q) + below(q, r) + below(r, p)
+}
 
 /// The number that has fewer than `rank` below it and at least `rank` at or below it.
 pub fn rank(numbers: &[i32], rank: usize) -> i32 {
