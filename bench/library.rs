@@ -1,4 +1,4 @@
-//! The library's entries through its C face, those that include/nuoskelma.h says have landed.
+//! The library's entries that are timed, through its C face.
 //!
 //! An answer of more than 16 bytes is written where a first argument points. On x86-64 that is how C hands it back; the compiled module says so outright, so
 //! for Arm it has the same plain first argument, where C would use a register of its own. Declared like this the entries are called rightly on both.
@@ -8,7 +8,7 @@ pub fn scratch_for(n: usize) -> usize {
     16 * n + 64
 }
 
-#[cfg(has_pick)]
+#[cfg(has_library)]
 mod picker {
     #[repr(C)]
     struct Picked {
@@ -41,10 +41,10 @@ mod picker {
     }
 }
 
-#[cfg(has_pick)]
+#[cfg(has_library)]
 pub use picker::pick;
 
-#[cfg(has_bridge)]
+#[cfg(has_library)]
 mod bridges {
     use crate::inputs::Sheet;
 
@@ -83,10 +83,10 @@ mod bridges {
     }
 }
 
-#[cfg(has_bridge)]
+#[cfg(has_library)]
 pub use bridges::bridge;
 
-#[cfg(has_chains)]
+#[cfg(has_library)]
 mod both_chains {
     use crate::inputs::Sheet;
 
@@ -156,5 +156,5 @@ mod both_chains {
     }
 }
 
-#[cfg(has_chains)]
+#[cfg(has_library)]
 pub use both_chains::{chains, Room};

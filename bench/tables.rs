@@ -1,21 +1,21 @@
 //! The tables. Each line first compares the answers, which is not timed, then lets all work on the same inputs in turns.
 
-#[cfg(has_bridge)]
+#[cfg(has_library)]
 pub mod bridge;
-#[cfg(has_chains)]
+#[cfg(has_library)]
 pub mod chains;
-#[cfg(has_pick)]
+#[cfg(has_library)]
 pub mod pick;
 
 /// A table's name and what prints it.
 type Printed = (&'static str, fn());
 
-/// The tables whose entries have landed.
+/// The tables; without the library there is nothing to time.
 pub const TABLES: &[Printed] = &[
-    #[cfg(has_pick)]
+    #[cfg(has_library)]
     ("pick", pick::print),
-    #[cfg(has_bridge)]
+    #[cfg(has_library)]
     ("bridge", bridge::print),
-    #[cfg(has_chains)]
+    #[cfg(has_library)]
     ("chains", chains::print),
 ];

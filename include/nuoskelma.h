@@ -28,7 +28,6 @@ extern "C" {
 #define NUOSKELMA_SCRATCH(items) (16 * (size_t)(items) + 64)
 
 /* ---- Rank picker. */
-#define NUOSKELMA_HAS_PICK 1
 
 typedef struct {
     uint32_t number;
@@ -44,8 +43,6 @@ typedef struct {
 nuoskelma_picked nuoskelma_pick(const int32_t *numbers, size_t numbers_len, size_t rank, uint32_t *scratch, size_t scratch_len);
 
 /* ---- A round of the bridge finder, and the bridge over a. Samples come as two lists, one east, one north; a sample's number is its place from 0. */
-#define NUOSKELMA_HAS_ROUND 1
-#define NUOSKELMA_HAS_BRIDGE 1
 
 /* Kind 1: the bridge, left and right. Kind 2: a kept list of so many numbers. Kind 0: refused. */
 typedef struct {
@@ -83,7 +80,6 @@ nuoskelma_bridged nuoskelma_bridge(const int32_t *east, size_t east_len, const i
     size_t scratch_len);
 
 /* ---- Chains and ring. Both chains go left to right; each corner is reported by the lowest sample number at its position. */
-#define NUOSKELMA_HAS_CHAINS 1
 
 typedef struct {
     uint32_t number;
@@ -108,8 +104,6 @@ typedef struct {
     size_t count;
 } nuoskelma_counted;
 
-#define NUOSKELMA_HAS_RING 1
-
 /*
  * The ring of the samples, its corners in ring order at the front of two output lists of parts, and its count: the upper chain, then the lower chain right to
  * left. What lies beyond it in the lists stays. No samples: the ring is empty. Scratch has at least 16 words for each sample and 64 more; all of it is zero
@@ -120,7 +114,6 @@ nuoskelma_counted nuoskelma_ring(const int32_t *east, size_t east_len, const int
     int32_t *out_north, size_t out_north_len, uint32_t *scratch, size_t scratch_len);
 
 /* ---- Ring hand: goes round the corners of a ring, edge by edge. */
-#define NUOSKELMA_HAS_HAND 1
 
 /* A hand of so many corners, at a place from 0. */
 typedef struct {
@@ -155,9 +148,6 @@ typedef struct {
 nuoskelma_hand_stepped nuoskelma_hand_step(nuoskelma_hand hand);
 
 /* ---- Using a ring. A ring comes as two lists, east and north, and is an envelope exactly if it equals the ring of its own positions. */
-#define NUOSKELMA_HAS_STRONGEST 1
-#define NUOSKELMA_HAS_COVER 1
-#define NUOSKELMA_HAS_TURN_ABOUT 1
 
 typedef struct {
     uint32_t number;
@@ -193,8 +183,6 @@ nuoskelma_cover_told nuoskelma_cover(const int32_t *east, size_t east_len, const
 nuoskelma_counted nuoskelma_turn_about(const int32_t *east, size_t east_len, const int32_t *north, size_t north_len, int32_t *out_east,
     size_t out_east_len, int32_t *out_north, size_t out_north_len);
 
-#define NUOSKELMA_HAS_JOIN 1
-
 /*
  * The ring of both rings' positions, at the front of two output lists, and its count. What lies beyond it in them stays. Scratch has at least 16 words for
  * each corner of both rings and 64 more; all of it is zero afterwards.
@@ -206,8 +194,6 @@ nuoskelma_counted nuoskelma_join(const int32_t *east, size_t east_len, const int
     size_t scratch_len);
 
 /* ---- Float door: readings that come as 64-bit floats, in the unit of the parts. */
-#define NUOSKELMA_HAS_PART 1
-#define NUOSKELMA_HAS_READINGS 1
 
 typedef struct {
     uint32_t number;
@@ -238,7 +224,6 @@ nuoskelma_readings_taken nuoskelma_readings(const double *east, size_t east_len,
     size_t out_east_len, int32_t *out_north, size_t out_north_len);
 
 /* ---- Record. Byte 0 is the version, 1; bytes 1 to 4 are the length in bytes of the rest, big-endian; then 4 bytes east and 4 bytes north for each corner. */
-#define NUOSKELMA_HAS_RECORD 1
 
 /*
  * The corners of a record at the front of two output lists, and their count. What lies beyond them in the lists stays. Length 0 is the empty ring.

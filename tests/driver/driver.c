@@ -28,8 +28,8 @@
    An op with 100 added is the same on a stack of its own, of 65,536 bytes and not one more: what lies below may not be touched, and a call that goes deeper
    ends this program by signal 11. Its response has one scalar more, how many bytes of that stack were used, counted down to the lowest one written.
 
-   Ends with status 0 when the input ends after a response, 3 at an op that is unknown or has not landed, 4 at a request that is cut or not of its op's
-   form, 5 if a guarded byte was altered. */
+   Ends with status 0 when the input ends after a response, 3 at an op that is unknown, 4 at a request that is cut or not of its op's form, 5 if a
+   guarded byte was altered. */
 
 #include "../../include/nuoskelma.h"
 
@@ -43,6 +43,68 @@ extern void exit(int status) __attribute__((noreturn));
 
 enum { UNKNOWN_OP = 3, BAD_REQUEST = 4, GUARD_ALTERED = 5 };
 enum { MOST_SCALARS = 8, MOST_SLICES = 8, GUARD = 64, GUARD_BYTE = 0xa5, BUFFER = 1 << 16, ROOM = 1 << 25 };
+
+/* ---- the layout of every struct of the C face, as it is on x86-64 */
+
+#define SIZE(type, bytes) _Static_assert(sizeof(type) == (bytes), #type " has " #bytes " bytes")
+#define AT(type, field, byte) _Static_assert(__builtin_offsetof(type, field) == (byte), #type " has " #field " at " #byte)
+
+SIZE(nuoskelma_picked, 24);
+AT(nuoskelma_picked, number, 0);
+AT(nuoskelma_picked, place, 8);
+AT(nuoskelma_picked, value, 16);
+SIZE(nuoskelma_round_said, 40);
+AT(nuoskelma_round_said, number, 0);
+AT(nuoskelma_round_said, place, 8);
+AT(nuoskelma_round_said, kind, 16);
+AT(nuoskelma_round_said, left, 20);
+AT(nuoskelma_round_said, right, 24);
+AT(nuoskelma_round_said, kept, 32);
+SIZE(nuoskelma_bridged, 24);
+AT(nuoskelma_bridged, number, 0);
+AT(nuoskelma_bridged, place, 8);
+AT(nuoskelma_bridged, left, 16);
+AT(nuoskelma_bridged, right, 20);
+SIZE(nuoskelma_chained, 32);
+AT(nuoskelma_chained, number, 0);
+AT(nuoskelma_chained, place, 8);
+AT(nuoskelma_chained, upper, 16);
+AT(nuoskelma_chained, lower, 24);
+SIZE(nuoskelma_counted, 24);
+AT(nuoskelma_counted, number, 0);
+AT(nuoskelma_counted, place, 8);
+AT(nuoskelma_counted, count, 16);
+SIZE(nuoskelma_hand, 16);
+AT(nuoskelma_hand, count, 0);
+AT(nuoskelma_hand, place, 8);
+SIZE(nuoskelma_hand_made, 32);
+AT(nuoskelma_hand_made, number, 0);
+AT(nuoskelma_hand_made, place, 8);
+AT(nuoskelma_hand_made, hand, 16);
+SIZE(nuoskelma_hand_stepped, 48);
+AT(nuoskelma_hand_stepped, number, 0);
+AT(nuoskelma_hand_stepped, place, 8);
+AT(nuoskelma_hand_stepped, from, 16);
+AT(nuoskelma_hand_stepped, to, 24);
+AT(nuoskelma_hand_stepped, hand, 32);
+SIZE(nuoskelma_strongest_set, 32);
+AT(nuoskelma_strongest_set, number, 0);
+AT(nuoskelma_strongest_set, place, 8);
+AT(nuoskelma_strongest_set, set, 16);
+AT(nuoskelma_strongest_set, at, 24);
+SIZE(nuoskelma_cover_told, 24);
+AT(nuoskelma_cover_told, number, 0);
+AT(nuoskelma_cover_told, place, 8);
+AT(nuoskelma_cover_told, covered, 16);
+SIZE(nuoskelma_part_taken, 16);
+AT(nuoskelma_part_taken, number, 0);
+AT(nuoskelma_part_taken, value, 4);
+AT(nuoskelma_part_taken, back, 8);
+SIZE(nuoskelma_readings_taken, 32);
+AT(nuoskelma_readings_taken, number, 0);
+AT(nuoskelma_readings_taken, place, 8);
+AT(nuoskelma_readings_taken, count, 16);
+AT(nuoskelma_readings_taken, back, 24);
 
 /* ---- standard input and output */
 
@@ -199,24 +261,19 @@ static int64_t bits_of(double x) {
     return bits;
 }
 
-#if defined NUOSKELMA_HAS_RING || defined NUOSKELMA_HAS_TURN_ABOUT || defined NUOSKELMA_HAS_JOIN || defined NUOSKELMA_HAS_RECORD
 static void say_counted(nuoskelma_counted r) {
     say(r.number);
     say((int64_t)r.place);
     say((int64_t)r.count);
 }
-#endif
 
-#ifdef NUOSKELMA_HAS_HAND
 static void say_hand(nuoskelma_hand hand) {
     say((int64_t)hand.count);
     say((int64_t)hand.place);
 }
-#endif
 
 /* ---- the entries */
 
-#ifdef NUOSKELMA_HAS_PICK
 static void pick(void) {
     form(1, "iu");
     nuoskelma_picked r = nuoskelma_pick(I32(0), (size_t)scalars[0], U32(1));
@@ -224,9 +281,7 @@ static void pick(void) {
     say((int64_t)r.place);
     say(r.value);
 }
-#endif
 
-#ifdef NUOSKELMA_HAS_ROUND
 static void round_(void) {
     form(1, "iiuuu");
     nuoskelma_round_said r = nuoskelma_round(I32(0), I32(1), U32(2), (int32_t)scalars[0], U32(3), U32(4));
@@ -237,9 +292,7 @@ static void round_(void) {
     say(r.right);
     say((int64_t)r.kept);
 }
-#endif
 
-#ifdef NUOSKELMA_HAS_BRIDGE
 static void bridge(void) {
     form(1, "iiu");
     nuoskelma_bridged r = nuoskelma_bridge(I32(0), I32(1), (int32_t)scalars[0], U32(2));
@@ -248,9 +301,7 @@ static void bridge(void) {
     say(r.left);
     say(r.right);
 }
-#endif
 
-#ifdef NUOSKELMA_HAS_CHAINS
 static void chains(void) {
     form(0, "iiuuu");
     nuoskelma_chained r = nuoskelma_chains(I32(0), I32(1), U32(2), U32(3), U32(4));
@@ -259,16 +310,12 @@ static void chains(void) {
     say((int64_t)r.upper);
     say((int64_t)r.lower);
 }
-#endif
 
-#ifdef NUOSKELMA_HAS_RING
 static void ring(void) {
     form(0, "iiiiu");
     say_counted(nuoskelma_ring(I32(0), I32(1), I32(2), I32(3), U32(4)));
 }
-#endif
 
-#ifdef NUOSKELMA_HAS_HAND
 static void hand_for(void) {
     form(1, "");
     nuoskelma_hand_made r = nuoskelma_hand_for((size_t)scalars[0]);
@@ -287,9 +334,7 @@ static void hand_step(void) {
     say((int64_t)r.to);
     say_hand(r.hand);
 }
-#endif
 
-#ifdef NUOSKELMA_HAS_STRONGEST
 static void strongest(void) {
     form(2, "ii");
     nuoskelma_strongest_set r = nuoskelma_strongest(I32(0), I32(1), (int32_t)scalars[0], (int32_t)scalars[1]);
@@ -298,9 +343,7 @@ static void strongest(void) {
     say(r.set);
     say((int64_t)r.at);
 }
-#endif
 
-#ifdef NUOSKELMA_HAS_COVER
 static void cover(void) {
     form(2, "ii");
     nuoskelma_cover_told r = nuoskelma_cover(I32(0), I32(1), (int32_t)scalars[0], (int32_t)scalars[1]);
@@ -308,23 +351,17 @@ static void cover(void) {
     say((int64_t)r.place);
     say(r.covered);
 }
-#endif
 
-#ifdef NUOSKELMA_HAS_TURN_ABOUT
 static void turn_about(void) {
     form(0, "iiii");
     say_counted(nuoskelma_turn_about(I32(0), I32(1), I32(2), I32(3)));
 }
-#endif
 
-#ifdef NUOSKELMA_HAS_JOIN
 static void join(void) {
     form(0, "iiiiiiu");
     say_counted(nuoskelma_join(I32(0), I32(1), I32(2), I32(3), I32(4), I32(5), U32(6)));
 }
-#endif
 
-#ifdef NUOSKELMA_HAS_PART
 static void part(void) {
     form(1, "");
     double x;
@@ -334,9 +371,7 @@ static void part(void) {
     say(r.value);
     say(bits_of(r.back));
 }
-#endif
 
-#ifdef NUOSKELMA_HAS_READINGS
 static void readings(void) {
     form(0, "ddii");
     nuoskelma_readings_taken r = nuoskelma_readings(F64(0), F64(1), I32(2), I32(3));
@@ -345,14 +380,11 @@ static void readings(void) {
     say((int64_t)r.count);
     say(bits_of(r.back));
 }
-#endif
 
-#ifdef NUOSKELMA_HAS_RECORD
 static void record(void) {
     form(0, "bii");
     say_counted(nuoskelma_record(BYTES(0), I32(1), I32(2)));
 }
-#endif
 
 static void use_stack(void) {
     form(1, "");
@@ -362,46 +394,20 @@ static void use_stack(void) {
 
 static void answer(uint32_t op) {
     switch (op) {
-#ifdef NUOSKELMA_HAS_PICK
     case 1: pick(); break;
-#endif
-#ifdef NUOSKELMA_HAS_ROUND
     case 2: round_(); break;
-#endif
-#ifdef NUOSKELMA_HAS_BRIDGE
     case 3: bridge(); break;
-#endif
-#ifdef NUOSKELMA_HAS_CHAINS
     case 4: chains(); break;
-#endif
-#ifdef NUOSKELMA_HAS_RING
     case 5: ring(); break;
-#endif
-#ifdef NUOSKELMA_HAS_HAND
     case 6: hand_for(); break;
     case 7: hand_step(); break;
-#endif
-#ifdef NUOSKELMA_HAS_STRONGEST
     case 8: strongest(); break;
-#endif
-#ifdef NUOSKELMA_HAS_COVER
     case 9: cover(); break;
-#endif
-#ifdef NUOSKELMA_HAS_TURN_ABOUT
     case 10: turn_about(); break;
-#endif
-#ifdef NUOSKELMA_HAS_JOIN
     case 11: join(); break;
-#endif
-#ifdef NUOSKELMA_HAS_PART
     case 12: part(); break;
-#endif
-#ifdef NUOSKELMA_HAS_READINGS
     case 13: readings(); break;
-#endif
-#ifdef NUOSKELMA_HAS_RECORD
     case 14: record(); break;
-#endif
     case 15: use_stack(); break;
     default: flush(); exit(UNKNOWN_OP);
     }

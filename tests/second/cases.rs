@@ -5,6 +5,7 @@ pub mod chains;
 pub mod cover;
 pub mod hand;
 pub mod join;
+pub mod laws;
 pub mod part;
 pub mod pick;
 pub mod program;
@@ -17,7 +18,9 @@ pub mod stack;
 pub mod strongest;
 pub mod turn_about;
 
-use crate::driver::Desk;
+use crate::driver::{
+    Desk, Entry, BRIDGE, CHAINS, COVER, HAND_FOR, HAND_STEP, JOIN, PART, PICK, READINGS, RECORD, RING, ROUND, STRONGEST, TURN_ABOUT,
+};
 use crate::gen::Chance;
 use crate::rules::{scratch_for, Answer};
 
@@ -25,28 +28,44 @@ use crate::rules::{scratch_for, Answer};
 pub struct Cases {
     /// the name by which it is asked for
     pub name: &'static str,
+    /// the functions of the C face that it compares
+    pub functions: &'static [&'static Entry],
     /// the soundings that are run, with what the rules' own page says of them
     pub soundings: fn(&mut Desk),
-    /// all cases, the largest among them
+    /// short lists, and the largest
     pub all: fn(&mut Desk),
+    /// lists of 256 to 65,536 items, of every kind; the hand and one part take no list
+    pub middle: Option<fn(&mut Desk)>,
     /// the cases of as many samples, numbers, readings or corners as are taken, and of one more
     pub largest: fn(&mut Desk),
 }
 
+const fn cases(
+    name: &'static str,
+    functions: &'static [&'static Entry],
+    soundings: fn(&mut Desk),
+    all: fn(&mut Desk),
+    middle: Option<fn(&mut Desk)>,
+    largest: fn(&mut Desk),
+) -> Cases {
+    Cases { name, functions, soundings, all, middle, largest }
+}
+
+/// Every entry: `face::hold` holds this list to the header.
 pub const ENTRIES: [Cases; 13] = [
-    Cases { name: "pick", soundings: soundings::pick, all: pick::cases, largest: pick::largest },
-    Cases { name: "round", soundings: soundings::round, all: round::cases, largest: round::largest },
-    Cases { name: "bridge", soundings: soundings::bridge, all: bridge::cases, largest: bridge::largest },
-    Cases { name: "chains", soundings: soundings::chains, all: chains::cases, largest: chains::largest },
-    Cases { name: "ring", soundings: soundings::ring, all: ring::cases, largest: ring::largest },
-    Cases { name: "hand", soundings: soundings::hand, all: hand::cases, largest: soundings::hand },
-    Cases { name: "strongest", soundings: soundings::strongest, all: strongest::cases, largest: strongest::largest },
-    Cases { name: "cover", soundings: soundings::cover, all: cover::cases, largest: cover::largest },
-    Cases { name: "turn_about", soundings: soundings::turn_about, all: turn_about::cases, largest: turn_about::largest },
-    Cases { name: "join", soundings: soundings::join, all: join::cases, largest: join::largest },
-    Cases { name: "part", soundings: soundings::part, all: part::cases, largest: soundings::part },
-    Cases { name: "readings", soundings: soundings::readings, all: readings::cases, largest: readings::largest },
-    Cases { name: "record", soundings: soundings::record, all: record::cases, largest: record::largest },
+    cases("pick", &[&PICK], soundings::pick, pick::cases, Some(pick::middle), pick::largest),
+    cases("round", &[&ROUND], soundings::round, round::cases, Some(round::middle), round::largest),
+    cases("bridge", &[&BRIDGE], soundings::bridge, bridge::cases, Some(bridge::middle), bridge::largest),
+    cases("chains", &[&CHAINS], soundings::chains, chains::cases, Some(chains::middle), chains::largest),
+    cases("ring", &[&RING], soundings::ring, ring::cases, Some(ring::middle), ring::largest),
+    cases("hand", &[&HAND_FOR, &HAND_STEP], soundings::hand, hand::cases, None, soundings::hand),
+    cases("strongest", &[&STRONGEST], soundings::strongest, strongest::cases, Some(strongest::middle), strongest::largest),
+    cases("cover", &[&COVER], soundings::cover, cover::cases, Some(cover::middle), cover::largest),
+    cases("turn_about", &[&TURN_ABOUT], soundings::turn_about, turn_about::cases, Some(turn_about::middle), turn_about::largest),
+    cases("join", &[&JOIN], soundings::join, join::cases, Some(join::middle), join::largest),
+    cases("part", &[&PART], soundings::part, part::cases, None, soundings::part),
+    cases("readings", &[&READINGS], soundings::readings, readings::cases, Some(readings::middle), readings::largest),
+    cases("record", &[&RECORD], soundings::record, record::cases, Some(record::middle), record::largest),
 ];
 
 /// A result's number and place, then its other fields, which are 0 at a refusal.

@@ -1,9 +1,12 @@
-//! Lends cases to the library through the driver, and compares what it left with what the rules say.
+//! Lends cases to the library through the driver, and compares what it left with what the rules say; or lends it something and hands back what it left.
 
+use std::collections::BTreeMap;
 use std::io::{BufReader, BufWriter, Read, Write};
 use std::process::{exit, Child, ChildStdin, ChildStdout, Command, ExitStatus, Stdio};
 use std::sync::mpsc::{channel, Receiver, Sender};
 use std::thread::JoinHandle;
+
+use crate::gen::seed;
 
 /// An entry as the driver's table has it: its op, and the names of its scalars, its slices and its result's fields.
 pub struct Entry {
@@ -63,6 +66,14 @@ impl Lent {
         }
     }
 
+    /// What counts as long: a record by its corners, 8 bytes each.
+    fn items(&self) -> usize {
+        match self {
+            Lent::Bytes(list) => list.len() / 8,
+            _ => self.length(),
+        }
+    }
+
     fn bytes(&self) -> Vec<u8> {
         match self {
             Lent::I32(list) => list.iter().flat_map(|x| x.to_le_bytes()).collect(),
@@ -113,22 +124,22 @@ pub struct Case {
     pub altered: Vec<(usize, Lent)>,
 }
 
-impl Case {
-    fn request(&self, stack: Stack) -> Vec<u8> {
-        let mut bytes = Vec::new();
-        let op = self.entry.op + if stack == Stack::Small { ON_SMALL_STACK } else { 0 };
-        bytes.extend(op.to_le_bytes());
-        bytes.extend((self.scalars.len() as u32).to_le_bytes());
-        bytes.extend(self.scalars.iter().flat_map(|x| x.to_le_bytes()));
-        bytes.extend((self.lent.len() as u32).to_le_bytes());
-        for slice in &self.lent {
-            let content = slice.bytes();
-            bytes.extend((content.len() as u32).to_le_bytes());
-            bytes.extend(content);
-        }
-        bytes
+fn request(entry: &Entry, stack: Stack, scalars: &[i64], lent: &[Lent]) -> Vec<u8> {
+    let mut bytes = Vec::new();
+    let op = entry.op + if stack == Stack::Small { ON_SMALL_STACK } else { 0 };
+    bytes.extend(op.to_le_bytes());
+    bytes.extend((scalars.len() as u32).to_le_bytes());
+    bytes.extend(scalars.iter().flat_map(|x| x.to_le_bytes()));
+    bytes.extend((lent.len() as u32).to_le_bytes());
+    for slice in lent {
+        let content = slice.bytes();
+        bytes.extend((content.len() as u32).to_le_bytes());
+        bytes.extend(content);
     }
+    bytes
+}
 
+impl Case {
     /// The slice as the entry must leave it.
     fn left(&self, place: usize) -> &Lent {
         match self.altered.iter().find(|(altered, _)| *altered == place) {
@@ -154,7 +165,8 @@ impl Case {
             let mut text = String::new();
             for (place, name) in self.entry.fields.iter().enumerate() {
                 let library = said.get(place).map_or("nothing".to_string(), i64::to_string);
-                text += &format!("  {name}: the rules say {}, the library {library}\n", self.said[place]);
+                let different = if said.get(place) == Some(&self.said[place]) { "" } else { ", DIFFERENT" };
+                text += &format!("  {name}: the rules say {}, the library {library}{different}\n", self.said[place]);
             }
             return Some(text);
         }
@@ -198,7 +210,7 @@ impl Desk {
     /// The reader is told of the case before the driver is, so it never waits for one that it does not know. A driver that has ended is noticed by the
     /// reader, so nothing is made of that here.
     pub fn put(&mut self, case: Case) {
-        let request = case.request(self.stack);
+        let request = request(case.entry, self.stack, &case.scalars, &case.lent);
         let _ = self.to_reader.send(case);
         let _ = self.to_driver.write_all(&request);
     }
@@ -227,8 +239,14 @@ fn read_response(from: &mut impl Read) -> std::io::Result<(Vec<i64>, Vec<Vec<u8>
     Ok((said, slices))
 }
 
+/// The words with which a run has the same cases again.
+pub fn seed_words() -> String {
+    format!("SEED={}", seed())
+}
+
+/// Ends the program. What was not as it should be is told together with the seed.
 pub fn fail(text: String) -> ! {
-    println!("{text}");
+    println!("{text}\nthe same cases again: {} before the command", seed_words());
     exit(1)
 }
 
@@ -239,10 +257,13 @@ pub struct Kind {
     pub deepest: i64,
 }
 
-/// What was compared, kind by kind in the order in which they came.
+/// What was compared: kind by kind in the order in which they came; how many cases each function of the C face had; and how many had a first list of 2 to the
+/// k items or more, and fewer than twice as many, for each k.
 #[derive(Default)]
 pub struct Compared {
     pub kinds: Vec<Kind>,
+    pub functions: BTreeMap<&'static str, u64>,
+    pub lengths: BTreeMap<u32, u64>,
 }
 
 impl Compared {
@@ -250,13 +271,17 @@ impl Compared {
         self.kinds.iter().map(|kind| kind.count).sum()
     }
 
-    fn add(&mut self, words: &'static str, used: i64) {
-        match self.kinds.iter_mut().find(|kind| kind.words == words) {
+    fn add(&mut self, case: &Case, used: i64) {
+        match self.kinds.iter_mut().find(|kind| kind.words == case.words) {
             Some(kind) => {
                 kind.count += 1;
                 kind.deepest = kind.deepest.max(used);
             }
-            None => self.kinds.push(Kind { words, count: 1, deepest: used }),
+            None => self.kinds.push(Kind { words: case.words, count: 1, deepest: used }),
+        }
+        *self.functions.entry(case.entry.name).or_default() += 1;
+        if let Some(power) = case.lent.first().and_then(|list| list.items().checked_ilog2()) {
+            *self.lengths.entry(power).or_default() += 1;
         }
     }
 }
@@ -269,11 +294,17 @@ struct Running {
     writer: JoinHandle<()>,
 }
 
-fn start(driver: &str, stack: Stack, cases: impl FnOnce(&mut Desk) + Send + 'static) -> Running {
-    let mut child = match Command::new(driver).stdin(Stdio::piped()).stdout(Stdio::piped()).spawn() {
+/// The driver is its command and the words for it, with spaces between.
+fn spawn(driver: &str) -> Child {
+    let mut words = driver.split_whitespace();
+    match Command::new(words.next().unwrap_or("")).args(words).stdin(Stdio::piped()).stdout(Stdio::piped()).spawn() {
         Ok(child) => child,
         Err(error) => fail(format!("{driver} does not start: {error}")),
-    };
+    }
+}
+
+fn start(driver: &str, stack: Stack, cases: impl FnOnce(&mut Desk) + Send + 'static) -> Running {
+    let mut child = spawn(driver);
     let (to_reader, from_desk) = channel();
     let to_driver = BufWriter::with_capacity(1 << 16, child.stdin.take().expect("the driver's input is a pipe"));
     let from_driver = BufReader::with_capacity(1 << 16, child.stdout.take().expect("the driver's output is a pipe"));
@@ -296,7 +327,7 @@ pub fn compare(driver: &str, stack: Stack, cases: impl FnOnce(&mut Desk) + Send 
                 if let Some(difference) = case.difference(&said, &slices) {
                     fail(format!("DIFFERENCE in case {}\n{}{difference}", compared.count() + 1, case.shown()));
                 }
-                compared.add(case.words, used);
+                compared.add(&case, used);
             }
             Err(error) => {
                 let status = child.wait().map_or("unknown".to_string(), |status| status.to_string());
@@ -320,4 +351,48 @@ pub fn end_of(driver: &str, stack: Stack, cases: impl FnOnce(&mut Desk) + Send +
     let _ = writer.join();
     let status = child.wait().ok()?;
     (!responded).then_some(status)
+}
+
+/// The library alone: what it is lent, and what it hands back, call by call.
+pub struct Library {
+    child: Child,
+    to_driver: BufWriter<ChildStdin>,
+    from_driver: BufReader<ChildStdout>,
+    calls: u64,
+}
+
+impl Library {
+    pub fn start(driver: &str) -> Library {
+        let mut child = spawn(driver);
+        let to_driver = BufWriter::with_capacity(1 << 16, child.stdin.take().expect("the driver's input is a pipe"));
+        let from_driver = BufReader::with_capacity(1 << 16, child.stdout.take().expect("the driver's output is a pipe"));
+        Library { child, to_driver, from_driver, calls: 0 }
+    }
+
+    /// The fields of the result, and every lent list as the library left it. The driver reads a request whole before it responds, so neither waits for the other.
+    pub fn call(&mut self, entry: &'static Entry, scalars: &[i64], lent: &[Lent]) -> (Vec<i64>, Vec<Lent>) {
+        self.calls += 1;
+        let wrote = self.to_driver.write_all(&request(entry, Stack::Ordinary, scalars, lent)).and_then(|()| self.to_driver.flush());
+        match wrote.and_then(|()| read_response(&mut self.from_driver)) {
+            Ok((said, slices)) if said.len() == entry.fields.len() && slices.len() == lent.len() => {
+                (said, lent.iter().zip(&slices).map(|(lent, left)| lent.alike(left)).collect())
+            }
+            other => fail(format!(
+                "NO RESPONSE to call {} of {} ({})",
+                self.calls,
+                entry.name,
+                other.err().map_or("of another form".to_string(), |e| e.to_string())
+            )),
+        }
+    }
+
+    /// How many calls it was; the driver must end well.
+    pub fn end(self) -> u64 {
+        let Library { mut child, to_driver, calls, .. } = self;
+        drop(to_driver);
+        match child.wait() {
+            Ok(status) if status.success() => calls,
+            other => fail(format!("the driver did not end well: {other:?}")),
+        }
+    }
 }

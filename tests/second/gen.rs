@@ -1,7 +1,37 @@
-//! Chance that is the same at every run, and what is made by it: samples of every kind, rings, lists that are almost rings, noise.
+//! Chance that is the same at every run with one seed, and what is made by it: samples of every kind, rings, lists that are almost rings, noise.
+
+use std::sync::OnceLock;
 
 use crate::rules::chain::{at, ring_of, Position};
 use crate::rules::{LIMIT, MOST};
+
+/// The seed that is given from outside, as SEED=n; without one 0, so that every run has the same cases.
+pub fn seed() -> u64 {
+    static SEED: OnceLock<u64> = OnceLock::new();
+    *SEED.get_or_init(|| match std::env::var("SEED") {
+        Err(_) => 0,
+        Ok(word) => word.parse().unwrap_or_else(|_| {
+            println!("SEED is no number from 0 to 2^64 - 1: {word}");
+            std::process::exit(2)
+        }),
+    })
+}
+
+/// So many cases by chance; where few are asked for, a hundredth of them.
+pub fn times(count: usize) -> usize {
+    if FEW.get().is_some() {
+        count / 100
+    } else {
+        count
+    }
+}
+
+static FEW: OnceLock<()> = OnceLock::new();
+
+/// From here on few cases are asked for.
+pub fn ask_for_few() {
+    let _ = FEW.set(());
+}
 
 /// xoshiro256**, its state filled by splitmix64.
 pub struct Chance {
@@ -9,8 +39,9 @@ pub struct Chance {
 }
 
 impl Chance {
-    pub fn new(seed: u64) -> Chance {
-        let mut mixed = seed;
+    /// A number for each use, so that none has the chance of another; the seed from outside makes all of them others.
+    pub fn new(number: u64) -> Chance {
+        let mut mixed = number.wrapping_add(seed().wrapping_mul(0xd134_2543_de82_ef95));
         let mut splitmix = || {
             mixed = mixed.wrapping_add(0x9e37_79b9_7f4a_7c15);
             let z = (mixed ^ mixed >> 30).wrapping_mul(0xbf58_476d_1ce4_e5b9);
@@ -63,14 +94,24 @@ impl Chance {
         (0..length).map(|_| self.bits() as i32).collect()
     }
 
-    /// A length of 0 to 200, mostly below 13: the ends are where lists differ most.
+    /// A length of 0 to 255, mostly below 13: the ends are where lists differ most.
     pub fn length(&mut self) -> usize {
         match self.below(20) {
             0..=2 => self.below(4),
             3..=13 => 4 + self.below(9),
             14..=18 => 13 + self.below(18),
-            _ => 31 + self.below(170),
+            _ => 31 + self.below(225),
         }
+    }
+
+    /// A length from 2 to the least to 2 to the greatest power, both included, in one of so many equal shares of the way between the powers; now and then at
+    /// a power of two or beside it.
+    pub fn length_of_share(&mut self, powers: (u32, u32), share: usize, shares: usize) -> usize {
+        let (least, greatest) = powers;
+        let way = (share as f64 + 0.5 + 0.5 * self.swing()) / shares as f64;
+        let power = least as f64 + (greatest - least) as f64 * way;
+        let length = if self.one_in(8) { 2f64.powf(power.round()) + self.between(-1, 1) as f64 } else { 2f64.powf(power) };
+        (length.round() as usize).clamp(1 << least, 1 << greatest)
     }
 }
 
@@ -283,10 +324,9 @@ fn deep(chance: &mut Chance, n: usize, east: i64, north: i64) -> Vec<Position> {
     list
 }
 
-/// Samples of some kind, often out of order and with repeats.
-pub fn samples(chance: &mut Chance, n: usize) -> (&'static str, Samples) {
-    let (words, maker) = chance.of(&KINDS);
-    let mut list = maker(chance, n);
+/// Often out of order and with repeats.
+fn mixed(chance: &mut Chance, mut list: Vec<Position>) -> Vec<Position> {
+    let n = list.len();
     if chance.one_in(3) {
         for _ in 0..n / 3 {
             list[chance.below(n)] = list[chance.below(n)];
@@ -295,7 +335,60 @@ pub fn samples(chance: &mut Chance, n: usize) -> (&'static str, Samples) {
     if chance.one_in(3) {
         chance.shuffle(&mut list);
     }
-    (words, Samples::of(&list))
+    list
+}
+
+/// Samples of some kind, often out of order and with repeats.
+pub fn samples(chance: &mut Chance, n: usize) -> (&'static str, Samples) {
+    let (words, maker) = chance.of(&KINDS);
+    let list = maker(chance, n);
+    (words, Samples::of(&mixed(chance, list)))
+}
+
+/// The middle sizes: from 2 to the 8 to 2 to the 16.
+pub const MIDDLE: (u32, u32) = (8, 16);
+
+/// Lists of every kind, often out of order and with repeats, so many of each kind. Their lengths are spread evenly over the powers of two: those of each kind,
+/// and those of all kinds.
+pub fn of_sizes(chance: &mut Chance, powers: (u32, u32), of_each: usize, mut each: impl FnMut(&mut Chance, &'static str, Vec<Position>)) {
+    let mut kinds: Vec<(&'static str, Maker)> = KINDS.iter().chain(&LONG_KINDS).copied().collect();
+    for turn in 0..of_each {
+        chance.shuffle(&mut kinds);
+        for (place, (words, maker)) in kinds.iter().enumerate() {
+            let n = chance.length_of_share(powers, turn * kinds.len() + place, of_each * kinds.len());
+            let list = maker(chance, n);
+            let list = mixed(chance, list);
+            each(chance, words, list);
+        }
+    }
+}
+
+/// Lists of middle sizes: 12 of each kind, or one where few are asked for.
+pub fn of_middle_sizes(chance: &mut Chance, each: impl FnMut(&mut Chance, &'static str, Vec<Position>)) {
+    of_sizes(chance, MIDDLE, times(1_200).div_ceil(100), each);
+}
+
+/// Rings of middle sizes: those of the lists above, and of each kind one of exactly as many corners as its list is long, if there is one; beside each the list
+/// itself, which is hardly ever a ring, and the ring changed by a little.
+pub fn rings_of_middle_sizes(chance: &mut Chance, mut each: impl FnMut(&mut Chance, &'static str, Vec<Position>)) {
+    of_middle_sizes(chance, |chance, words, list| {
+        let ring = ring_of(&list);
+        let (_, almost) = changed(chance, ring.clone());
+        let wide = large_ring(list.len().min(MOST_CORNERS));
+        let (_, almost_wide) = changed(chance, wide.clone());
+        for list in [ring, almost, list, almost_wide, wide] {
+            each(chance, words, list);
+        }
+    });
+}
+
+/// A place of a list that is not empty: any one, or, as often, one of its last four.
+pub fn place(chance: &mut Chance, length: usize) -> usize {
+    if chance.one_in(2) {
+        chance.below(length)
+    } else {
+        length - 1 - chance.below(length.min(4))
+    }
 }
 
 /// Makes one or two parts lie beyond the limit.
@@ -304,9 +397,19 @@ pub fn spoil_parts(chance: &mut Chance, samples: &mut Samples) {
     for _ in 0..1 + chance.below(2) {
         let list = if chance.one_in(2) { &mut samples.east } else { &mut samples.north };
         if !list.is_empty() {
-            let place = chance.below(list.len());
+            let place = place(chance, list.len());
             list[place] = chance.of(&beyond);
         }
+    }
+}
+
+/// Spoils parts, lengths, both, or, mostly, nothing.
+pub fn spoil(chance: &mut Chance, samples: &mut Samples) {
+    if chance.one_in(4) {
+        spoil_parts(chance, samples);
+    }
+    if chance.one_in(8) {
+        spoil_lengths(chance, samples);
     }
 }
 
@@ -353,7 +456,12 @@ pub fn ring(chance: &mut Chance) -> (&'static str, Vec<Position>) {
 
 /// A ring, changed by a little: mostly no ring any more.
 pub fn almost_ring(chance: &mut Chance) -> (&'static str, Vec<Position>) {
-    let (_, mut list) = ring(chance);
+    let (_, list) = ring(chance);
+    changed(chance, list)
+}
+
+/// A ring changed by a little, and how.
+pub fn changed(chance: &mut Chance, mut list: Vec<Position>) -> (&'static str, Vec<Position>) {
     let corners = list.len();
     if corners == 0 {
         return ("empty ring", list);

@@ -6,10 +6,10 @@ mod refusals;
 mod soundings;
 
 use std::collections::BTreeSet;
-use std::process::exit;
 use std::time::Instant;
 
 use crate::cases;
+use crate::driver::fail;
 use crate::gen::{almost_ring, cut, large_ring, ring, samples, Chance, Samples};
 use crate::rules::chain::{at, bridge, chains_of, lower, ring_of, upper, Position};
 use crate::rules::door::{part, readings};
@@ -23,8 +23,7 @@ use crate::rules::{has_bridge, scratch_for};
 /// Ends the program unless two ways agree.
 fn agree<T: PartialEq + std::fmt::Debug>(rules: T, other: T, about: impl Fn() -> String) {
     if rules != other {
-        println!("DIFFERENCE: the rules say {rules:?}, the other way {other:?}\n{}", about());
-        exit(1)
+        fail(format!("DIFFERENCE: the rules say {rules:?}, the other way {other:?}\n{}", about()))
     }
 }
 

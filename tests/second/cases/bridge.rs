@@ -2,7 +2,7 @@
 
 use super::{enough_scratch, fields, scratch};
 use crate::driver::{Case, Desk, Lent, BRIDGE};
-use crate::gen::{cut, input_a, of_every_kind, samples, spoil_lengths, spoil_parts, too_many, Chance, Samples};
+use crate::gen::{cut, input_a, of_every_kind, of_middle_sizes, samples, spoil, spoil_lengths, spoil_parts, times, too_many, Chance, Samples};
 use crate::rules::chain::bridge;
 use crate::rules::{scratch_for, MOST};
 
@@ -26,7 +26,7 @@ pub fn cases(desk: &mut Desk) {
         put(desk, words, input_a(), a, scratch);
     }
     every_cut(desk, &mut chance);
-    for _ in 0..240_000 {
+    for _ in 0..times(240_000) {
         let n = chance.length();
         let (words, mut samples) = samples(&mut chance, n);
         let a = cut(&mut chance, &samples.east);
@@ -44,7 +44,7 @@ pub fn cases(desk: &mut Desk) {
 
 /// Short lists with a at, below and above every east.
 fn every_cut(desk: &mut Desk, chance: &mut Chance) {
-    for _ in 0..3_000 {
+    for _ in 0..times(3_000) {
         let n = chance.below(7);
         let (words, samples) = samples(chance, n);
         for a in samples.east.iter().flat_map(|&east| [east - 1, east, east + 1]) {
@@ -52,6 +52,21 @@ fn every_cut(desk: &mut Desk, chance: &mut Chance) {
             put(desk, words, samples.clone(), a, scratch);
         }
     }
+}
+
+/// Middle sizes, of every kind.
+pub fn middle(desk: &mut Desk) {
+    let mut chance = Chance::new(43);
+    of_middle_sizes(&mut chance, |chance, words, list| {
+        let mut samples = Samples::of(&list);
+        let a = chance.of(&samples.east);
+        let exact = enough_scratch(chance, list.len());
+        put(desk, words, samples.clone(), a, exact);
+        let a = cut(chance, &samples.east);
+        spoil(chance, &mut samples);
+        let scratch = scratch(chance, list.len());
+        put(desk, words, samples, a, scratch);
+    });
 }
 
 /// 65,536 samples of every kind, and one more.

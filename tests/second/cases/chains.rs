@@ -2,7 +2,9 @@
 
 use super::{enough_scratch, fields, output_length, scratch};
 use crate::driver::{Case, Desk, Lent, CHAINS};
-use crate::gen::{input_a, of_every_kind, of_some_kinds, samples, spoil_lengths, spoil_parts, too_many, Chance, Samples};
+use crate::gen::{
+    input_a, of_every_kind, of_middle_sizes, of_some_kinds, samples, spoil, spoil_lengths, spoil_parts, times, too_many, Chance, Samples,
+};
 use crate::rules::chain::{chains, chains_of};
 use crate::rules::{scratch_for, MOST};
 
@@ -22,12 +24,12 @@ fn put(desk: &mut Desk, words: &'static str, samples: Samples, upper: Vec<u32>, 
 pub fn cases(desk: &mut Desk) {
     let mut chance = Chance::new(4);
     every_output(desk, &mut chance, "P1 and P2: input A", input_a());
-    for _ in 0..3_000 {
+    for _ in 0..times(3_000) {
         let n = chance.below(12);
         let (words, samples) = samples(&mut chance, n);
         every_output(desk, &mut chance, words, samples);
     }
-    for _ in 0..300_000 {
+    for _ in 0..times(300_000) {
         let n = chance.length();
         let (words, mut samples) = samples(&mut chance, n);
         let found = chains_of(&samples.positions());
@@ -45,6 +47,22 @@ pub fn cases(desk: &mut Desk) {
     for (words, samples) in of_some_kinds(&mut chance, MOST) {
         every_output(desk, &mut chance, words, samples);
     }
+}
+
+/// Middle sizes, of every kind.
+pub fn middle(desk: &mut Desk) {
+    let mut chance = Chance::new(44);
+    of_middle_sizes(&mut chance, |chance, words, list| {
+        let mut samples = Samples::of(&list);
+        let found = chains_of(&list);
+        let (upper, lower) = (chance.noise_u32(found.upper.len()), chance.noise_u32(found.lower.len()));
+        let exact = enough_scratch(chance, list.len());
+        put(desk, words, samples.clone(), upper, lower, exact);
+        let (upper, lower) = (output_length(chance, found.upper.len()), output_length(chance, found.lower.len()));
+        spoil(chance, &mut samples);
+        let (upper, lower, scratch) = (chance.noise_u32(upper), chance.noise_u32(lower), scratch(chance, list.len()));
+        put(desk, words, samples, upper, lower, scratch);
+    });
 }
 
 /// The outputs exactly long enough, one short in either and in both, and longer, full of noise; the scratch exactly long enough and one short, full of noise.

@@ -2,7 +2,9 @@
 
 use super::fields;
 use crate::driver::{Case, Desk, Lent, COVER};
-use crate::gen::{almost_ring, input_a, large_ring, ring, spoil_lengths, spoil_parts, too_many, Chance, Samples, MOST_CORNERS};
+use crate::gen::{
+    almost_ring, input_a, large_ring, ring, rings_of_middle_sizes, spoil, spoil_lengths, spoil_parts, times, too_many, Chance, Samples, MOST_CORNERS,
+};
 use crate::rules::chain::{at, ring_of, Position};
 use crate::rules::using::cover;
 use crate::rules::{LIMIT, MOST};
@@ -19,7 +21,7 @@ fn put(desk: &mut Desk, words: &'static str, ring: Samples, stream: (i32, i32)) 
     });
 }
 
-fn middle(list: &[Position]) -> Position {
+fn between(list: &[Position]) -> Position {
     let count = list.len() as i64;
     let sum = |part: fn(&Position) -> i64| list.iter().map(part).sum::<i64>();
     at(sum(|p| p.east).div_euclid(count), sum(|p| p.north).div_euclid(count))
@@ -34,10 +36,10 @@ fn stream(chance: &mut Chance, corners: &[Position]) -> (i32, i32) {
     let (corner, next, any) = (corners[place], corners[(place + 1) % corners.len()], chance.of(corners));
     let near = match chance.below(5) {
         0 => corner,
-        1 => middle(&[corner, next]),
-        2 => middle(&[corner, any]),
-        3 => middle(&[corner, next, any]),
-        _ => middle(corners),
+        1 => between(&[corner, next]),
+        2 => between(&[corner, any]),
+        3 => between(&[corner, next, any]),
+        _ => between(corners),
     };
     let by = chance.of(&[0, 0, 1, 3]);
     ((near.east + chance.between(-by, by)) as i32, (near.north + chance.between(-by, by)) as i32)
@@ -52,7 +54,7 @@ pub fn cases(desk: &mut Desk) {
             put(desk, "A's ring", ring_a.clone(), (x, y));
         }
     }
-    for _ in 0..300_000 {
+    for _ in 0..times(300_000) {
         let (words, corners) = if chance.one_in(4) { almost_ring(&mut chance) } else { ring(&mut chance) };
         let stream = stream(&mut chance, &corners);
         let mut ring = Samples::of(&corners);
@@ -65,6 +67,19 @@ pub fn cases(desk: &mut Desk) {
         put(desk, words, ring, stream);
     }
     largest(desk);
+}
+
+/// Rings of middle sizes, almost rings, and lists that are none.
+pub fn middle(desk: &mut Desk) {
+    let mut chance = Chance::new(49);
+    rings_of_middle_sizes(&mut chance, |chance, words, corners| {
+        let mut ring = Samples::of(&corners);
+        let near = stream(chance, &corners);
+        put(desk, words, ring.clone(), near);
+        let stream = stream(chance, &corners);
+        spoil(chance, &mut ring);
+        put(desk, words, ring, stream);
+    });
 }
 
 /// Rings of as many corners as there is room for, and lists too long.

@@ -2,7 +2,7 @@
 
 use super::fields;
 use crate::driver::{Case, Desk, HAND_FOR, HAND_STEP};
-use crate::gen::Chance;
+use crate::gen::{times, Chance};
 use crate::rules::using::{hand_for, hand_step, Hand};
 
 fn put_for(desk: &mut Desk, corners: usize) {
@@ -40,7 +40,7 @@ pub fn cases(desk: &mut Desk) {
     for corners in (1..=100).chain([65_535, 65_536]) {
         around(desk, corners);
     }
-    for _ in 0..20_000 {
+    for _ in 0..times(20_000) {
         let count = chance.below(70_000);
         let place = chance.below(count + 2);
         put_for(desk, count);

@@ -2,7 +2,10 @@
 
 use super::{enough_scratch, fields, output_length, scratch};
 use crate::driver::{Case, Desk, Lent, JOIN};
-use crate::gen::{almost_ring, large_ring, of_every_kind, ring, spoil_lengths, spoil_parts, too_many, Chance, Samples};
+use crate::gen::{
+    almost_ring, changed, large_ring, of_every_kind, of_middle_sizes, ring, spoil_lengths, spoil_parts, times, too_many, Chance, Samples,
+    MOST_CORNERS,
+};
 use crate::rules::chain::{at, ring_of, Position};
 use crate::rules::using::{join, joined};
 use crate::rules::{scratch_for, MOST};
@@ -74,10 +77,10 @@ pub fn cases(desk: &mut Desk) {
     let (first, second) = ([at(2, 5), at(2, 1)], [at(0, 0), at(4, 0)]);
     let outputs = exactly_enough(&mut chance, &first, &second);
     put(desk, "P9", Samples::of(&first), Samples::of(&second), outputs);
-    for _ in 0..270_000 {
+    for _ in 0..times(270_000) {
         pair(desk, &mut chance);
     }
-    for _ in 0..12_000 {
+    for _ in 0..times(12_000) {
         grouping(desk, &mut chance);
     }
     largest(desk);
@@ -95,10 +98,15 @@ fn pair(desk: &mut Desk, chance: &mut Chance) {
     if chance.one_in(2) {
         (first, second) = (second, first);
     }
-    let corners = joined(&first, &second).len();
+    damaged(desk, chance, words, &first, &second);
+}
+
+/// Two rings or almost rings, with outputs and scratch that need not be long enough; now and then spoilt.
+fn damaged(desk: &mut Desk, chance: &mut Chance, words: &'static str, first: &[Position], second: &[Position]) {
+    let corners = joined(first, second).len();
     let (east, north) = (output_length(chance, corners), output_length(chance, corners));
     let outputs = Outputs { east: chance.noise_i32(east), north: chance.noise_i32(north), scratch: scratch(chance, first.len() + second.len()) };
-    let mut rings = [Samples::of(&first), Samples::of(&second)];
+    let mut rings = [Samples::of(first), Samples::of(second)];
     for ring in &mut rings {
         if chance.one_in(40) {
             spoil_parts(chance, ring);
@@ -121,6 +129,29 @@ fn grouping(desk: &mut Desk, chance: &mut Chance) {
         put(desk, "a chain of joins", Samples::of(&first), Samples::of(&second), outputs);
         rings.push(joined(&first, &second));
     }
+}
+
+/// Middle sizes: the rings of both halves of samples of every kind; a ring of as many corners as half of them, beside another one; one of as many as all of
+/// them, beside a small one; rings changed by a little, and lists that are no rings.
+pub fn middle(desk: &mut Desk) {
+    let mut chance = Chance::new(51);
+    of_middle_sizes(&mut chance, |chance, words, list| {
+        let (front, back) = list.split_at(list.len() / 2);
+        let (first, second) = (ring_of(front), ring_of(back));
+        let (wide, widest) = (large_ring(front.len()), large_ring(list.len().min(MOST_CORNERS)));
+        let ((_, other), (_, small)) = (beside(chance, &wide), ring(chance));
+        for (first, second) in [(&first, &second), (&wide, &other), (&first, &wide), (&widest, &small), (&small, &widest)] {
+            let outputs = exactly_enough(chance, first, second);
+            put(desk, words, Samples::of(first), Samples::of(second), outputs);
+            damaged(desk, chance, words, first, second);
+        }
+        let (almost, almost_wide) = (changed(chance, first.clone()).1, changed(chance, wide.clone()).1);
+        for (first, second) in
+            [(&almost[..], &wide[..]), (&wide, &almost), (&almost_wide, &first), (&first, &almost_wide), (&list, &small), (&small, &list)]
+        {
+            damaged(desk, chance, words, first, second);
+        }
+    });
 }
 
 /// The rings of both halves of 65,536 samples of every kind; 65,536 joined corners, and one more.

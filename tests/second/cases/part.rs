@@ -1,7 +1,7 @@
 //! Cases of one float at the door.
 
 use crate::driver::{Case, Desk, PART};
-use crate::gen::Chance;
+use crate::gen::{times, Chance};
 use crate::rules::door::part;
 
 fn put(desk: &mut Desk, words: &'static str, float: u64) {
@@ -74,10 +74,10 @@ pub fn cases(desk: &mut Desk) {
 }
 
 fn by_chance(desk: &mut Desk, chance: &mut Chance) {
-    for _ in 0..30_000 {
+    for _ in 0..times(30_000) {
         put_around(desk, "whole, or beside it", chance.between(0, 1_100_000) as f64);
     }
-    for _ in 0..100_000 {
+    for _ in 0..times(100_000) {
         let fraction = 2f64.powi(-(chance.below(30) as i32));
         put(desk, "a fraction of a power of two", (chance.between(-1_000_001, 1_000_001) as f64 + fraction).to_bits());
         put(desk, "whole and large", (chance.bits() as i64 as f64).to_bits());
@@ -86,7 +86,7 @@ fn by_chance(desk: &mut Desk, chance: &mut Chance) {
         put(desk, "near the limit", chance.bits() & 1 << 63 | exponent << 52 | fraction);
         put(desk, "near the limit, few bits", exponent << 52 | fraction >> 30 << 30);
     }
-    for _ in 0..80_000 {
+    for _ in 0..times(80_000) {
         put(desk, "any bits", chance.bits());
     }
 }

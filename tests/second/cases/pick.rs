@@ -2,7 +2,7 @@
 
 use super::{enough_scratch, fields, scratch};
 use crate::driver::{Case, Desk, Lent, PICK};
-use crate::gen::Chance;
+use crate::gen::{of_middle_sizes, times, Chance, Samples};
 use crate::rules::rank::pick;
 use crate::rules::{scratch_for, MOST};
 
@@ -38,7 +38,7 @@ pub fn cases(desk: &mut Desk) {
     let mut chance = Chance::new(1);
     every_rank(desk, &mut chance);
     ranks_at_the_ends(desk, &mut chance);
-    for _ in 0..180_000 {
+    for _ in 0..times(180_000) {
         let n = chance.length();
         let (words, maker) = chance.of(&KINDS);
         let rank = match chance.below(12) {
@@ -76,6 +76,24 @@ fn ranks_at_the_ends(desk: &mut Desk, chance: &mut Chance) {
             }
         }
     }
+}
+
+/// Middle sizes: the easts and the norths of samples of every kind, and numbers of every kind above.
+pub fn middle(desk: &mut Desk) {
+    let mut chance = Chance::new(41);
+    of_middle_sizes(&mut chance, |chance, words, list| {
+        let n = list.len();
+        let (own_words, maker) = chance.of(&KINDS);
+        let (Samples { east, north }, own) = (Samples::of(&list), maker(chance, n));
+        for (words, numbers) in [(words, east), (words, north), (own_words, own)] {
+            let rank = 1 + chance.below(n);
+            let exact = enough_scratch(chance, n);
+            put(desk, words, numbers.clone(), rank, exact);
+            let any = chance.of(&[0, 1, 2, n / 2, n - 1, n, n + 1, 65_537, usize::MAX]);
+            let scratch = scratch(chance, n);
+            put(desk, words, numbers, any, scratch);
+        }
+    });
 }
 
 /// 65,536 numbers of every kind, and one more.

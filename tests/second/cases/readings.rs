@@ -3,7 +3,8 @@
 use super::output_length;
 use super::part::{NOT_NUMBERS, SPECIAL};
 use crate::driver::{Case, Desk, Lent, READINGS};
-use crate::gen::Chance;
+use crate::gen::{of_middle_sizes, place, times, Chance};
+use crate::rules::chain::Position;
 use crate::rules::door::readings;
 use crate::rules::MOST;
 
@@ -55,7 +56,7 @@ fn good_lists(chance: &mut Chance, n: usize) -> Readings {
 pub fn cases(desk: &mut Desk) {
     let mut chance = Chance::new(13);
     bad_in_every_place(desk, &mut chance);
-    for _ in 0..100_000 {
+    for _ in 0..times(100_000) {
         let n = chance.length();
         let mut lists = good_lists(&mut chance, n);
         for _ in 0..chance.below(3) {
@@ -73,6 +74,27 @@ pub fn cases(desk: &mut Desk) {
         put(desk, "readings by chance", lists, out_east, out_north);
     }
     largest(desk);
+}
+
+/// Middle sizes: the parts of samples of every kind as floats; and with a bad one, or outputs too short.
+pub fn middle(desk: &mut Desk) {
+    let mut chance = Chance::new(53);
+    of_middle_sizes(&mut chance, |chance, words, list| {
+        let n = list.len();
+        let floats = |part: fn(&Position) -> i64| -> Vec<u64> { list.iter().map(|p| (part(p) as f64).to_bits()).collect() };
+        let mut lists = Readings { east: floats(|p| p.east), north: floats(|p| p.north) };
+        put(desk, words, lists.clone(), chance.noise_i32(n), chance.noise_i32(n));
+        for _ in 0..chance.below(3) {
+            let place = place(chance, n);
+            (if chance.one_in(2) { &mut lists.east } else { &mut lists.north })[place] = bad(chance);
+        }
+        if chance.one_in(8) {
+            (if chance.one_in(2) { &mut lists.east } else { &mut lists.north }).pop();
+        }
+        let (out_east, out_north) = (output_length(chance, n), output_length(chance, n));
+        let (out_east, out_north) = (chance.noise_i32(out_east), chance.noise_i32(out_north));
+        put(desk, words, lists, out_east, out_north);
+    });
 }
 
 fn bad_in_every_place(desk: &mut Desk, chance: &mut Chance) {

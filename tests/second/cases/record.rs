@@ -2,7 +2,7 @@
 
 use super::{fields, output_length};
 use crate::driver::{Case, Desk, Lent, RECORD};
-use crate::gen::{almost_ring, input_a, large_ring, ring, spoil_parts, Chance, Samples, MOST_CORNERS};
+use crate::gen::{almost_ring, input_a, large_ring, place, ring, rings_of_middle_sizes, spoil_parts, times, Chance, Samples, MOST_CORNERS};
 use crate::rules::chain::{at, ring_of};
 use crate::rules::record::{record, record_of, HEAD};
 use crate::rules::MOST;
@@ -30,14 +30,14 @@ pub fn cases(desk: &mut Desk) {
     put_enough(desk, &mut chance, "no byte", Vec::new());
     damaged(desk, &mut chance, &record_of(&[]));
     damaged(desk, &mut chance, &record_of(&ring_of(&input_a().positions())));
-    for _ in 0..1_000 {
+    for _ in 0..times(1_000) {
         let (_, corners) = ring(&mut chance);
         damaged(desk, &mut chance, &record_of(&corners));
         let (_, almost) = almost_ring(&mut chance);
         damaged(desk, &mut chance, &record_of(&almost));
     }
     by_chance(desk, &mut chance);
-    for _ in 0..150_000 {
+    for _ in 0..times(150_000) {
         let (words, corners) = if chance.one_in(2) { almost_ring(&mut chance) } else { ring(&mut chance) };
         let mut ring = Samples::of(&corners);
         if chance.one_in(8) {
@@ -48,6 +48,31 @@ pub fn cases(desk: &mut Desk) {
         put(desk, words, record_of(&ring.positions()), out_east, out_north);
     }
     largest(desk);
+}
+
+/// Records of middle sizes: of rings, of almost rings, and of lists that are none; with outputs exactly long enough and not; with a part beyond the limit, cut,
+/// or with a bit flipped.
+pub fn middle(desk: &mut Desk) {
+    let mut chance = Chance::new(54);
+    rings_of_middle_sizes(&mut chance, |chance, words, corners| {
+        let bytes = record_of(&corners);
+        let outputs = (chance.noise_i32(corners.len()), chance.noise_i32(corners.len()));
+        put(desk, words, bytes, outputs.0, outputs.1);
+        let mut ring = Samples::of(&corners);
+        if chance.one_in(4) {
+            spoil_parts(chance, &mut ring);
+        }
+        let mut bytes = record_of(&ring.positions());
+        let at = place(chance, bytes.len());
+        match chance.below(6) {
+            0 => bytes.truncate(at),
+            1 => bytes[at] ^= 1 << chance.below(8),
+            _ => {}
+        }
+        let (out_east, out_north) = (output_length(chance, corners.len()), output_length(chance, corners.len()));
+        let (out_east, out_north) = (chance.noise_i32(out_east), chance.noise_i32(out_north));
+        put(desk, words, bytes, out_east, out_north);
+    });
 }
 
 /// A record cut at every length, with bytes too many, with each bit of its head flipped and some others.
@@ -87,7 +112,7 @@ fn damaged(desk: &mut Desk, chance: &mut Chance, bytes: &[u8]) {
 
 /// Bytes that mean nothing, and heads that mean little.
 fn by_chance(desk: &mut Desk, chance: &mut Chance) {
-    for _ in 0..20_000 {
+    for _ in 0..times(20_000) {
         let length = chance.below(30);
         let mut bytes: Vec<u8> = (0..length).map(|_| chance.of(&[0, 1, 2, 8, 16, 24, 255])).collect();
         put_enough(desk, chance, "bytes by chance", bytes.clone());

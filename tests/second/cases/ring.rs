@@ -2,7 +2,9 @@
 
 use super::{enough_scratch, fields, output_length, scratch};
 use crate::driver::{Case, Desk, Lent, RING};
-use crate::gen::{input_a, of_every_kind, of_some_kinds, samples, spoil_lengths, spoil_parts, too_many, Chance, Samples};
+use crate::gen::{
+    input_a, of_every_kind, of_middle_sizes, of_some_kinds, samples, spoil, spoil_lengths, spoil_parts, times, too_many, Chance, Samples,
+};
 use crate::rules::chain::{ring, ring_of};
 use crate::rules::{scratch_for, MOST};
 
@@ -22,12 +24,12 @@ fn put(desk: &mut Desk, words: &'static str, samples: Samples, out_east: Vec<i32
 pub fn cases(desk: &mut Desk) {
     let mut chance = Chance::new(5);
     every_output(desk, &mut chance, "input A", input_a());
-    for _ in 0..3_000 {
+    for _ in 0..times(3_000) {
         let n = chance.below(12);
         let (words, samples) = samples(&mut chance, n);
         every_output(desk, &mut chance, words, samples);
     }
-    for _ in 0..300_000 {
+    for _ in 0..times(300_000) {
         let n = chance.length();
         let (words, mut samples) = samples(&mut chance, n);
         let corners = ring_of(&samples.positions()).len();
@@ -45,6 +47,21 @@ pub fn cases(desk: &mut Desk) {
     for (words, samples) in of_some_kinds(&mut chance, MOST) {
         every_output(desk, &mut chance, words, samples);
     }
+}
+
+/// Middle sizes, of every kind.
+pub fn middle(desk: &mut Desk) {
+    let mut chance = Chance::new(45);
+    of_middle_sizes(&mut chance, |chance, words, list| {
+        let mut samples = Samples::of(&list);
+        let corners = ring_of(&list).len();
+        let (out_east, out_north, exact) = (chance.noise_i32(corners), chance.noise_i32(corners), enough_scratch(chance, list.len()));
+        put(desk, words, samples.clone(), out_east, out_north, exact);
+        let (out_east, out_north) = (output_length(chance, corners), output_length(chance, corners));
+        spoil(chance, &mut samples);
+        let (out_east, out_north, scratch) = (chance.noise_i32(out_east), chance.noise_i32(out_north), scratch(chance, list.len()));
+        put(desk, words, samples, out_east, out_north, scratch);
+    });
 }
 
 /// The outputs exactly long enough, one short in either and in both, and longer, full of noise; the scratch exactly long enough and one short, full of noise.

@@ -2,7 +2,7 @@
 
 use super::{enough_scratch, fields, output_length, scratch};
 use crate::driver::{Case, Desk, Lent, ROUND};
-use crate::gen::{cut, input_a, of_every_kind, samples, spoil_lengths, spoil_parts, too_many, Chance, Samples};
+use crate::gen::{cut, input_a, of_every_kind, of_middle_sizes, place, samples, spoil_lengths, spoil_parts, times, too_many, Chance, Samples};
 use crate::rules::round::{round, said, Said};
 use crate::rules::{has_bridge, LIMIT, MOST};
 
@@ -85,7 +85,7 @@ pub fn cases(desk: &mut Desk) {
     let mut chance = Chance::new(2);
     soundings(desk, &mut chance);
     every_cut(desk, &mut chance);
-    for _ in 0..240_000 {
+    for _ in 0..times(240_000) {
         let n = chance.length();
         let (words, samples) = samples(&mut chance, n);
         let list = numbers(&mut chance, n);
@@ -112,7 +112,7 @@ fn soundings(desk: &mut Desk, chance: &mut Chance) {
 
 /// Lists of 0 to 6 samples with a at, below and above every east and at the ends of 32 bits.
 fn every_cut(desk: &mut Desk, chance: &mut Chance) {
-    for _ in 0..2_000 {
+    for _ in 0..times(2_000) {
         let n = chance.below(7);
         let (words, samples) = samples(chance, n);
         let list = numbers(chance, n);
@@ -130,7 +130,8 @@ fn spoiled(desk: &mut Desk, chance: &mut Chance, mut round: Round) {
     if chance.one_in(3) {
         for _ in 0..1 + chance.below(2) {
             let number = chance.of(&[count, count + 1, u32::MAX, 1 << 31, 65_536]);
-            round.list.insert(chance.below(round.list.len() + 1), number);
+            let at = place(chance, round.list.len() + 1);
+            round.list.insert(at, number);
         }
     }
     if chance.one_in(3) {
@@ -145,6 +146,18 @@ fn spoiled(desk: &mut Desk, chance: &mut Chance, mut round: Round) {
     let (output, scratch) = (chance.below(round.list.len() + 2), scratch(chance, round.list.len()));
     let output = chance.noise_u32(output);
     round.put(desk, output, scratch);
+}
+
+/// Middle sizes: every round from a first list of samples of every kind to its bridge, and one that is refused.
+pub fn middle(desk: &mut Desk) {
+    let mut chance = Chance::new(42);
+    of_middle_sizes(&mut chance, |chance, words, list| {
+        let samples = Samples::of(&list);
+        let list = numbers(chance, samples.east.len());
+        let a = cut(chance, &samples.east);
+        Round { words, samples: samples.clone(), list: list.clone(), a }.put_all(desk, chance);
+        spoiled(desk, chance, Round { words, samples, list, a });
+    });
 }
 
 /// 65,536 samples of every kind, and as many list items; and one more.

@@ -33,9 +33,10 @@ fn deepest(compared: &Compared) -> i64 {
     compared.kinds.iter().map(|kind| kind.deepest).max().unwrap_or(0)
 }
 
-pub fn run(driver: &str, entry: &Cases) {
+pub fn run(driver: &str, entry: &Cases) -> Compared {
     let compared = compare(driver, Stack::Small, entry.largest);
     let each: Vec<String> = compared.kinds.iter().map(|kind| format!("{} {}", kind.words, kind.deepest)).collect();
     println!("stack: {}: {} of {SMALL_STACK} bytes at most, in {} cases that all agree", entry.name, deepest(&compared), compared.count());
     println!("  {}", each.join("; "));
+    compared
 }

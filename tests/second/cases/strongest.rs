@@ -2,7 +2,9 @@
 
 use super::fields;
 use crate::driver::{Case, Desk, Lent, STRONGEST};
-use crate::gen::{almost_ring, input_a, large_ring, ring, spoil_lengths, spoil_parts, too_many, Chance, Samples, MOST_CORNERS};
+use crate::gen::{
+    almost_ring, input_a, large_ring, ring, rings_of_middle_sizes, spoil, spoil_lengths, spoil_parts, times, too_many, Chance, Samples, MOST_CORNERS,
+};
 use crate::rules::chain::{ring_of, Position};
 use crate::rules::using::strongest;
 use crate::rules::{LIMIT, MOST};
@@ -60,7 +62,7 @@ pub fn cases(desk: &mut Desk) {
             put(desk, "A's ring", ring_a.clone(), (x, y));
         }
     }
-    for _ in 0..300_000 {
+    for _ in 0..times(300_000) {
         let (words, corners) = if chance.one_in(4) { almost_ring(&mut chance) } else { ring(&mut chance) };
         let course = course(&mut chance, &corners);
         let mut ring = Samples::of(&corners);
@@ -73,6 +75,19 @@ pub fn cases(desk: &mut Desk) {
         put(desk, words, ring, course);
     }
     largest(desk);
+}
+
+/// Rings of middle sizes, almost rings, and lists that are none.
+pub fn middle(desk: &mut Desk) {
+    let mut chance = Chance::new(48);
+    rings_of_middle_sizes(&mut chance, |chance, words, corners| {
+        let mut ring = Samples::of(&corners);
+        let near = course(chance, &corners);
+        put(desk, words, ring.clone(), near);
+        let course = course(chance, &corners);
+        spoil(chance, &mut ring);
+        put(desk, words, ring, course);
+    });
 }
 
 /// Rings of as many corners as there is room for, and lists too long.

@@ -2,7 +2,9 @@
 
 use super::{fields, output_length};
 use crate::driver::{Case, Desk, Lent, TURN_ABOUT};
-use crate::gen::{almost_ring, large_ring, ring, spoil_lengths, spoil_parts, too_many, Chance, Samples, MOST_CORNERS};
+use crate::gen::{
+    almost_ring, large_ring, ring, rings_of_middle_sizes, spoil, spoil_lengths, spoil_parts, times, too_many, Chance, Samples, MOST_CORNERS,
+};
 use crate::rules::using::turn_about;
 use crate::rules::MOST;
 
@@ -22,7 +24,7 @@ fn put(desk: &mut Desk, words: &'static str, ring: Samples, out_east: Vec<i32>, 
 pub fn cases(desk: &mut Desk) {
     let mut chance = Chance::new(10);
     put(desk, "P10", Samples { east: vec![0, 2, 4], north: vec![0, 5, 0] }, vec![8; 3], vec![9; 3]);
-    for _ in 0..300_000 {
+    for _ in 0..times(300_000) {
         let (words, corners) = if chance.one_in(4) { almost_ring(&mut chance) } else { ring(&mut chance) };
         let (out_east, out_north) = (output_length(&mut chance, corners.len()), output_length(&mut chance, corners.len()));
         let mut ring = Samples::of(&corners);
@@ -36,6 +38,20 @@ pub fn cases(desk: &mut Desk) {
         put(desk, words, ring, out_east, out_north);
     }
     largest(desk);
+}
+
+/// Rings of middle sizes, almost rings, and lists that are none.
+pub fn middle(desk: &mut Desk) {
+    let mut chance = Chance::new(50);
+    rings_of_middle_sizes(&mut chance, |chance, words, corners| {
+        let mut ring = Samples::of(&corners);
+        let (out_east, out_north) = (chance.noise_i32(corners.len()), chance.noise_i32(corners.len()));
+        put(desk, words, ring.clone(), out_east, out_north);
+        let (out_east, out_north) = (output_length(chance, corners.len()), output_length(chance, corners.len()));
+        spoil(chance, &mut ring);
+        let (out_east, out_north) = (chance.noise_i32(out_east), chance.noise_i32(out_north));
+        put(desk, words, ring, out_east, out_north);
+    });
 }
 
 /// Rings of as many corners as there is room for, and lists too long.
