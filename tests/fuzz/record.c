@@ -1,0 +1,73 @@
+/* Bytes as a record, with the library held against itself: a refusal alters nothing; what is taken stands at the front of the outputs, the rest stays; whole
+   frames are taken or refused exactly as turning their corners about is, whose answer has as many corners; outputs one short are refused with 5. */
+
+#include <stdint.h>
+#include <stdlib.h>
+#include <string.h>
+
+#include "../../include/nuoskelma.h"
+
+enum { HEAD = 5, CORNER = 8, BEHIND = 2 };
+
+static void hold(int held) {
+    if (!held) abort();
+}
+
+static int32_t part(const uint8_t *at) { return (int32_t)((uint32_t)at[0] << 24 | (uint32_t)at[1] << 16 | (uint32_t)at[2] << 8 | (uint32_t)at[3]); }
+
+/* so many words that no part within the limit is */
+static int32_t *room(size_t count) {
+    int32_t *words = malloc((count + 1) * sizeof *words);
+    hold(words != NULL);
+    for (size_t k = 0; k < count; k++) words[k] = INT32_MIN + (int32_t)k;
+    return words;
+}
+
+static void stays(const int32_t *words, size_t from, size_t count) {
+    for (size_t k = from; k < count; k++) hold(words[k] == INT32_MIN + (int32_t)k);
+}
+
+static void whole(const uint8_t *bytes, size_t size, nuoskelma_counted read, const int32_t *east, const int32_t *north) {
+    size_t corners = (size - HEAD) / CORNER, length = corners + BEHIND;
+    int32_t *own_east = room(length), *own_north = room(length), *out_east = room(length), *out_north = room(length);
+    for (size_t k = 0; k < corners; k++) {
+        own_east[k] = part(bytes + HEAD + CORNER * k);
+        own_north[k] = part(bytes + HEAD + CORNER * k + 4);
+    }
+    nuoskelma_counted turned = nuoskelma_turn_about(own_east, corners, own_north, corners, out_east, length, out_north, length);
+    hold(read.number == turned.number && read.place == turned.place && read.count == turned.count);
+    if (read.number == 0) {
+        hold(read.count == corners);
+        hold(memcmp(east, own_east, corners * sizeof *east) == 0 && memcmp(north, own_north, corners * sizeof *north) == 0);
+    }
+    free(own_east);
+    free(own_north);
+    free(out_east);
+    free(out_north);
+}
+
+int LLVMFuzzerTestOneInput(const uint8_t *bytes, size_t size) {
+    size_t length = size / CORNER + BEHIND;
+    int32_t *east = room(length), *north = room(length);
+    nuoskelma_counted read = nuoskelma_record(bytes, size, east, length, north, length);
+    stays(east, read.count, length);
+    stays(north, read.count, length);
+    hold(read.number == 0 || (read.count == 0 && (read.number == 3 || read.place == 0)));
+    if (size >= HEAD && bytes[0] == 1 && (uint32_t)part(bytes + 1) == size - HEAD && (size - HEAD) % CORNER == 0) {
+        whole(bytes, size, read, east, north);
+    } else {
+        hold(read.number == (size > 0 && bytes[0] != 1 ? 16u : 17u));
+    }
+    if (read.number == 0 && read.count > 0) {
+        int32_t *short_east = room(length), *short_north = room(length);
+        nuoskelma_counted again = nuoskelma_record(bytes, size, short_east, read.count, short_north, read.count - 1);
+        hold(again.number == 5 && again.place == 0 && again.count == 0);
+        stays(short_east, 0, length);
+        stays(short_north, 0, length);
+        free(short_east);
+        free(short_north);
+    }
+    free(east);
+    free(north);
+    return 0;
+}
