@@ -3,7 +3,7 @@
 
 use std::collections::{BTreeMap, BTreeSet};
 
-use crate::cases::ENTRIES;
+use crate::cases::{Cases, ENTRIES};
 use crate::driver::fail;
 
 pub const HEADER: &str = "include/nuoskelma.h";
@@ -44,8 +44,8 @@ fn structs(header: &str) -> Vec<(String, Vec<String>)> {
     named.map(|(fields, name)| (name, fields.split(';').map(field).filter(|field| !field.is_empty()).collect())).collect()
 }
 
-/// Before anything is run: the functions that the list of entries compares are the header's, one by one; the driver that is built calls each; and the driver's
-/// source holds the size of every struct and the place of every field.
+/// Before anything is run: the functions that the list of entries compares are the header's, one by one, those over lists at middle sizes too; the driver that is
+/// built calls each; and the driver's source holds the size of every struct and the place of every field.
 pub fn hold(header: &str) {
     let wanted = declared(&text(header));
     let listed: Vec<String> = ENTRIES.iter().flat_map(|entry| entry.functions).map(|function| function.name.to_string()).collect();
@@ -58,6 +58,10 @@ pub fn hold(header: &str) {
     }
     if let Some(function) = compared.difference(&wanted).next() {
         fail(format!("NOT DECLARED: an entry compares nuoskelma_{function}, which {header} does not declare"));
+    }
+    let lent_lists = |entry: &&Cases| entry.functions.iter().any(|function| !function.slices.is_empty());
+    if let Some(entry) = ENTRIES.iter().filter(lent_lists).find(|entry| entry.middle.is_none()) {
+        fail(format!("NOT COMPARED: {} at middle sizes", entry.name));
     }
     // a name that the object has is one that it calls: the object is made of the driver alone
     let object = read(OBJECT);
