@@ -42,17 +42,22 @@ fn named(word: &str) -> Vec<&'static Cases> {
     found
 }
 
-/// Middle sizes mean that every kind of samples had cases, and every length from a power of two to the next.
-fn hold_middle(entry: &Cases, compared: &Compared) {
+/// Every kind of samples had cases.
+fn hold_kinds(entry: &Cases, size: &str, compared: &Compared) {
     for (words, _) in KINDS.iter().chain(&LONG_KINDS) {
         if !compared.kinds.iter().any(|kind| kind.words == *words && kind.count > 0) {
-            fail(format!("{}: no case of middle size is of kind: {words}", entry.name));
+            fail(format!("NOT COMPARED: {}, {size}, of kind: {words}", entry.name));
         }
     }
+}
+
+/// Middle sizes mean that every kind of samples had cases, and every length from a power of two to the next.
+fn hold_middle(entry: &Cases, compared: &Compared) {
+    hold_kinds(entry, "middle sizes", compared);
     let of = |power: u32| compared.lengths.get(&power).copied().unwrap_or(0);
     let each: Vec<String> = (MIDDLE.0..MIDDLE.1).map(|power| of(power).to_string()).collect();
     if (MIDDLE.0..MIDDLE.1).any(|power| of(power) == 0) {
-        fail(format!("{}: cases of middle size by length, from {} on: {}", entry.name, 1 << MIDDLE.0, each.join(", ")));
+        fail(format!("NOT COMPARED: {}, middle sizes, of some length; cases from {} items on: {}", entry.name, 1 << MIDDLE.0, each.join(", ")));
     }
     println!("{}: middle sizes: {} cases, all agree; from 256, 512, .. 32,768 items on: {}", entry.name, compared.count(), each.join(", "));
 }
@@ -88,7 +93,12 @@ fn run(driver: &str, header: &str, on_small_stack: bool, word: &str) {
     let mut counts = Counts::new();
     for entry in entries {
         if on_small_stack {
-            add(&mut counts, &stack::run(driver, entry));
+            let compared = stack::run(driver, entry);
+            // over samples, or over the rings of samples, with scratch
+            if entry.functions.iter().any(|function| ["east", "scratch"].iter().all(|slice| function.slices.contains(slice))) {
+                hold_kinds(entry, "the largest", &compared);
+            }
+            add(&mut counts, &compared);
         } else {
             compare(driver, entry, &mut counts);
         }
