@@ -369,7 +369,8 @@ impl Library {
         Library { child, to_driver, from_driver, calls: 0 }
     }
 
-    /// The fields of the result, and every lent list as the library left it. The driver reads a request whole before it responds, so neither waits for the other.
+    /// The fields of the result, and every lent list as the library left it. The driver reads a request whole before it responds, so neither waits for the
+    /// other.
     pub fn call(&mut self, entry: &'static Entry, scalars: &[i64], lent: &[Lent]) -> (Vec<i64>, Vec<Lent>) {
         self.calls += 1;
         let wrote = self.to_driver.write_all(&request(entry, Stack::Ordinary, scalars, lent)).and_then(|()| self.to_driver.flush());

@@ -44,8 +44,8 @@ fn structs(header: &str) -> Vec<(String, Vec<String>)> {
     named.map(|(fields, name)| (name, fields.split(';').map(field).filter(|field| !field.is_empty()).collect())).collect()
 }
 
-/// Before anything is run: the functions that the list of entries compares are the header's, one by one, those over lists at middle sizes too; the driver that is
-/// built calls each; and the driver's source holds the size of every struct and the place of every field.
+/// Before anything is run: the functions that the list of entries compares are the header's, one by one, those over lists at middle sizes too; the driver that
+/// is built calls each; and the driver's source holds the size of every struct and the place of every field.
 pub fn hold(header: &str) {
     let wanted = declared(&text(header));
     let listed: Vec<String> = ENTRIES.iter().flat_map(|entry| entry.functions).map(|function| function.name.to_string()).collect();
