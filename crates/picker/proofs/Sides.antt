@@ -18,7 +18,7 @@ use Rattle.picker.specs.Picking.{Pickable, Picks, Pivots, Parted}
 -- what is known once the keys are parted at the pivot p: w is what was lent, now what the pivot finder left of it, and after what the parting left
 pub record Split (w : List ℕ) (n r p : ℕ) (now : List ℕ) (c : Counts) (after : List ℕ) : Type 0 where
   pub pre : Pickable w n r
-  pub many : 5 ≤ n
+  pub many : 20 < n
   pub pivot : Pivots w n p now
   pub parted : Parted now n p c after
   pub now-long : length now ≡ length w

@@ -20,13 +20,13 @@ pub struct Ranked {
     pub key: u32,
 }
 
-// The key of rank r among the n keys at the front of w. Fewer than five have no group of five: the least is taken out until it has the rank. More are parted at the
+// The key of rank r among the n keys at the front of w. Of twenty keys or fewer the least is taken out until it has the rank; more are parted at the
 // pivot, and the pick goes on with the side that has the rank. Of what is lent only the length stays.
 pub fn pick_key(w: &mut [u32], n: usize, r: usize) -> Ranked
     requires { ⌜ Pickable (now w) n r ⌝ }
     ensures { λ said. ⌜ Picks (take n (now (w .entry))) r said ⌝ }
 {
-    if n < 5 {
+    if n <= 20 {
         let key = scan::short(w, n, r);
         return Ranked { key };
     }

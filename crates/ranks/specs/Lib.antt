@@ -4,3 +4,4 @@ pub mod Ranks
 pub mod Least
 pub mod Numbers
 pub mod Middles
+pub mod Picked
