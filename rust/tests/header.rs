@@ -1,6 +1,8 @@
-//! The declarations of `src/face.rs` are those of `include/nuoskelma.h`: the same structs and functions, with the same names and types in the same order.
+//! The declarations of `src/face.rs` are those of `include/nuoskelma.h`: the same structs and functions, with the same names and types in the same order. The
+//! limits are the same too, and so are the version and the numbers for no, if the header names them.
 
-use std::collections::BTreeMap;
+use nuoskelma::Refusal;
+use std::collections::{BTreeMap, BTreeSet};
 use std::fs;
 use std::path::Path;
 
@@ -18,14 +20,48 @@ fn between<'a>(text: &'a str, open: &str, close: &str) -> Option<(&'a str, &'a s
     rest.split_once(close)
 }
 
-fn without_comments(mut c: &str) -> String {
+/// What the compiler sees: no comments, and no lines of the preprocessor, with those that such a line goes on in.
+fn plain(header: &str) -> String {
+    let mut c = header;
     let mut plain = String::new();
     while let Some((before, rest)) = c.split_once("/*") {
         plain.push_str(before);
+        plain.push(' ');
         c = rest.split_once("*/").expect("a comment ends").1;
     }
     plain.push_str(c);
-    plain.lines().filter(|line| !line.starts_with('#')).collect::<Vec<_>>().join("\n")
+    let whole = plain.replace("\\\n", " ");
+    whole.lines().filter(|line| !line.trim_start().starts_with('#')).collect::<Vec<_>>().join("\n")
+}
+
+/// The plain text in two: without its enums, and what stands between the braces of each.
+fn enums_apart(plain: &str) -> (String, Vec<String>) {
+    let (mut others, mut enums) = (String::new(), Vec::new());
+    let mut rest = plain;
+    while let Some((before, after)) = rest.split_once("enum ") {
+        others.push_str(before.trim_end().trim_end_matches("typedef"));
+        let (listed, after) = between(after, "{", "}").expect("an enum lists its numbers");
+        enums.push(listed.to_string());
+        rest = after.split_once(';').expect("an enum ends").1;
+    }
+    others.push_str(rest);
+    (others, enums)
+}
+
+/// The numbers of an enum by name, each its own or one more than the one before.
+fn numbers(listed: &str) -> BTreeMap<String, u32> {
+    let mut next = 0;
+    let items = listed.split(',').map(str::trim).filter(|item| !item.is_empty());
+    items
+        .map(|item| {
+            let (name, number) = match item.split_once('=') {
+                Some((name, number)) => (name.trim(), number.trim().parse().unwrap_or_else(|_| panic!("{item} has no plain number"))),
+                None => (item, next),
+            };
+            next = number + 1;
+            (name.to_string(), number)
+        })
+        .collect()
 }
 
 /// `nuoskelma_hand_made` is `HandMade` here.
@@ -59,8 +95,8 @@ fn from_c(declared: &str) -> String {
     format!("{}: {}", &declared[at..], rust_type(declared[..at].trim()))
 }
 
-fn of_the_header() -> Declared {
-    let plain = without_comments(&text("../include/nuoskelma.h"));
+fn of_the_header(header: &str) -> Declared {
+    let (plain, _) = enums_apart(&plain(header));
     let mut declared = Declared::new();
     let mut rest = plain.as_str();
     while let Some((fields, after)) = between(rest, "typedef struct {", "}") {
@@ -72,7 +108,8 @@ fn of_the_header() -> Declared {
     for chunk in chunks {
         let (head, parameters) = chunk.split_once('(').unwrap();
         let (result, name) = head.trim().rsplit_once(char::is_whitespace).unwrap();
-        let mut parts: Vec<String> = parameters.trim().trim_end_matches(')').split(',').map(from_c).collect();
+        let parameters = parameters.trim().trim_end_matches(')');
+        let mut parts: Vec<String> = parameters.split(',').filter(|part| part.trim() != "void").map(from_c).collect();
         parts.push(rust_type(result.trim()));
         declared.insert(name.to_string(), parts);
     }
@@ -103,7 +140,7 @@ fn of_the_crate() -> Declared {
 
 #[test]
 fn the_crate_declares_what_the_header_declares() {
-    let (header, ours) = (of_the_header(), of_the_crate());
+    let (header, ours) = (of_the_header(&text("../include/nuoskelma.h")), of_the_crate());
     assert!(header.len() > 20, "{header:?}");
     assert_eq!(header.keys().collect::<Vec<_>>(), ours.keys().collect::<Vec<_>>());
     for (name, parts) in &header {
@@ -118,4 +155,51 @@ fn the_limits_are_the_headers() {
     assert!(header.contains(&format!("#define NUOSKELMA_MOST {}\n", nuoskelma::MOST)));
     assert!(header.contains("#define NUOSKELMA_SCRATCH(items) (16 * (size_t)(items) + 64)\n"));
     assert_eq!(nuoskelma::scratch_words(1000), 16 * 1000 + 64);
+    if let Some((version, _)) = between(&header, "#define NUOSKELMA_VERSION_STRING \"", "\"\n") {
+        assert_eq!(version, env!("CARGO_PKG_VERSION"));
+    }
+}
+
+/// The numbers that the crate has words for.
+fn numbers_of_the_crate() -> BTreeSet<u32> {
+    (0..=1000).filter(|number| Refusal { number: *number, place: 0 }.words() != "no number of the rules").collect()
+}
+
+/// The numbers of the header's enum of refusals are those that the crate has words for, each named once; 0, a call that is done, and 15, which the program
+/// alone gives, may be named beside them.
+fn held_to(listed: &str) {
+    let named = numbers(listed);
+    let refused: Vec<u32> = named.values().copied().filter(|number| ![0, 15].contains(number)).collect();
+    assert_eq!(refused.len(), refused.iter().collect::<BTreeSet<_>>().len(), "{named:?}");
+    assert_eq!(refused.into_iter().collect::<BTreeSet<_>>(), numbers_of_the_crate(), "{named:?}");
+}
+
+#[test]
+fn the_numbers_for_no_are_the_headers() {
+    assert_eq!(numbers_of_the_crate(), (1..=18).filter(|number| *number != 15).collect());
+    let (others, enums) = enums_apart(&plain(&text("../include/nuoskelma.h")));
+    assert!(!others.contains("enum"));
+    assert!(enums.len() < 2, "{enums:?}");
+    enums.iter().for_each(|listed| held_to(listed));
+}
+
+#[test]
+fn a_header_with_an_enum_and_a_version_is_read() {
+    const ENUM: &str = "{\n    NUOSKELMA_DONE, /* (0); */\n    NUOSKELMA_LENGTHS = 1,\n    NUOSKELMA_MANY,\n    NUOSKELMA_LAST = 18,\n}";
+    let header = text("../include/nuoskelma.h");
+    let (before, after) = header.split_once("typedef struct").unwrap();
+    let version = "#define NUOSKELMA_VERSION_MINOR 1\n  # define NUOSKELMA_VERSION \\\n    (1000 * 0 + \\\n     NUOSKELMA_VERSION_MINOR);\n";
+    for (open, close) in [("enum nuoskelma_refusal ", ";\n"), ("typedef enum ", " nuoskelma_refusal;\n")] {
+        let with = format!("{before}{version}{open}{ENUM}{close}typedef struct{after}");
+        assert_eq!(of_the_header(&with), of_the_header(&header));
+        let named = numbers(enums_apart(&plain(&with)).1.last().unwrap());
+        let expected = [("NUOSKELMA_DONE", 0), ("NUOSKELMA_LENGTHS", 1), ("NUOSKELMA_MANY", 2), ("NUOSKELMA_LAST", 18)];
+        assert_eq!(named, expected.map(|(name, number)| (name.to_string(), number)).into());
+    }
+    held_to("A, B, C, D, E, F, G, H, I, J, K, L, M, N, O, P = 16, Q, R");
+    for wrong in
+        ["A, B, C, D, E, F, G, H, I, J, K, L, M, N, O, P, Q", "A, B, C, D, E, F, G, H, I, J, K, L, M, N, O, P = 16, Q, R, S", "A = 18, B = 18"]
+    {
+        assert!(std::panic::catch_unwind(|| held_to(wrong)).is_err(), "{wrong}");
+    }
 }
