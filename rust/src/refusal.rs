@@ -24,6 +24,14 @@ use std::fmt;
 /// | 18 | a chain step's list has no bridge over its a | |
 ///
 /// A refusal alters nothing that was lent, except that 5 and 18 of a function with scratch leave all the scratch zero.
+///
+/// ```
+/// use nuoskelma::{Envelope, Refusal};
+///
+/// let refusal = Envelope::of(&[0, 1_000_001], &[0, 0]).unwrap_err();
+/// assert_eq!(refusal, Refusal { number: 3, place: 1 });
+/// assert_eq!(refusal.to_string(), "refused 3 1: a part beyond the limit");
+/// ```
 #[derive(Clone, Copy, Debug, PartialEq, Eq, Hash)]
 pub struct Refusal {
     /// The number for no.
@@ -32,7 +40,17 @@ pub struct Refusal {
     pub place: usize,
 }
 
-/// A refusal of the float door, with the float that it hands back: 13 and 14 hand back the offending float itself, the others nothing.
+/// A refusal of the float door, with the float that it hands back: 13 and 14 hand back the offending float itself, the others nothing. It
+/// is a [`Refusal`] too, without the float, so `?` takes it where a refusal is asked for.
+///
+/// ```
+/// use nuoskelma::{Envelope, Refusal, Samples};
+///
+/// fn envelope(east: &[f64], north: &[f64]) -> Result<Envelope, Refusal> {
+///     Samples::from_readings(east, north)?.envelope()
+/// }
+/// assert_eq!(envelope(&[0.0, 2.0], &[0.0, 0.5]), Err(Refusal { number: 14, place: 1 }));
+/// ```
 #[derive(Clone, Copy, Debug, PartialEq)]
 pub struct DoorRefusal {
     /// The number for no.
@@ -51,6 +69,10 @@ impl From<DoorRefusal> for Refusal {
 
 impl Refusal {
     /// What the number says, in the words of the rules.
+    ///
+    /// ```
+    /// assert_eq!(nuoskelma::Refusal { number: 9, place: 0 }.words(), "not an envelope");
+    /// ```
     pub fn words(&self) -> &'static str {
         match self.number {
             1 => "the two lists differ in length",
