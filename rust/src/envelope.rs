@@ -45,7 +45,7 @@ impl Envelope {
     /// ```
     pub fn of(east: &[i32], north: &[i32]) -> Result<Envelope, Refusal> {
         // a ring has at most as many corners as there are samples
-        Envelope::written(east.len(), |easts, norths| crate::ring(east, north, easts, norths, &mut Scratch::of(east.len())))
+        Envelope::of_call(east.len(), |easts, norths| crate::ring(east, north, easts, norths, &mut Scratch::of(east.len())))
     }
 
     /// A ring that is an envelope already, taken as it is.
@@ -82,7 +82,7 @@ impl Envelope {
     /// ```
     pub fn read(bytes: &[u8]) -> Result<Envelope, Refusal> {
         // a corner takes 8 bytes
-        Envelope::written(bytes.len() / 8, |easts, norths| crate::read_record(bytes, easts, norths))
+        Envelope::of_call(bytes.len() / 8, |easts, norths| crate::read_record(bytes, easts, norths))
     }
 
     /// The envelope of no samples: joined with any other it gives the other.
@@ -99,7 +99,7 @@ impl Envelope {
     }
 
     /// The ring that a call writes, with room for so many corners.
-    fn written(most: usize, call: impl FnOnce(&mut [i32], &mut [i32]) -> Result<usize, Refusal>) -> Result<Envelope, Refusal> {
+    fn of_call(most: usize, call: impl FnOnce(&mut [i32], &mut [i32]) -> Result<usize, Refusal>) -> Result<Envelope, Refusal> {
         let (mut easts, mut norths) = (room(most), room(most));
         let corners = call(&mut easts, &mut norths)?;
         Ok(Envelope { easts: written(easts, corners), norths: written(norths, corners) })
@@ -192,7 +192,7 @@ impl Envelope {
     /// ```
     pub fn join(&self, other: &Envelope) -> Result<Envelope, Refusal> {
         let both = self.len() + other.len();
-        Envelope::written(both, |easts, norths| {
+        Envelope::of_call(both, |easts, norths| {
             crate::join(&self.easts, &self.norths, &other.easts, &other.norths, easts, norths, &mut Scratch::of(both))
         })
     }
@@ -208,7 +208,7 @@ impl Envelope {
     #[must_use = "the envelope itself stays as it is"]
     pub fn turned(&self) -> Envelope {
         // 1, 2, 3 and 9 are refusals of lists that are no envelope, and 5 of less room than it has corners
-        Envelope::written(self.len(), |easts, norths| crate::turn_about(&self.easts, &self.norths, easts, norths))
+        Envelope::of_call(self.len(), |easts, norths| crate::turn_about(&self.easts, &self.norths, easts, norths))
             .expect("an envelope with room for its corners is turned about")
     }
 
