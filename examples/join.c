@@ -1,9 +1,9 @@
 /*
  * Joins two rings through the C face, prints the corners of the result, and shows two refusals.
  *
- * After `rt staticlib exports`, on x86-64:
+ * After `./install-library --prefix DIR`, on x86-64, where pkg-config looks into DIR/lib/pkgconfig:
  *
- *     cc -std=c99 -I include examples/join.c target/staticlib/libexports.a -o join
+ *     cc -std=c99 examples/join.c $(pkg-config --cflags --libs nuoskelma) -o join
  */
 #include <stdio.h>
 
@@ -11,6 +11,14 @@
 
 /* each ring here has two corners, so the result has at most four */
 enum { EACH = 2, BOTH = 4 };
+
+static const char *words(uint32_t refusal) {
+    switch (refusal) {
+    case NUOSKELMA_REFUSED_PART_BEYOND: return "a part beyond the limit";
+    case NUOSKELMA_REFUSED_NOT_ENVELOPE: return "not an envelope";
+    default: return "nuoskelma.h says why";
+    }
+}
 
 /* Joins the ring with the corners (0,0) and (4,0), and prints what comes of it. */
 static void join(const int32_t *east, const int32_t *north) {
@@ -23,8 +31,8 @@ static void join(const int32_t *east, const int32_t *north) {
 
     joined = nuoskelma_join(east, EACH, north, EACH, other_east, EACH, other_north, EACH, out_east, BOTH, out_north, BOTH, scratch,
         NUOSKELMA_SCRATCH(BOTH));
-    if (joined.number != 0) {
-        printf("refused %lu %lu\n", (unsigned long)joined.number, (unsigned long)joined.place);
+    if (joined.number != NUOSKELMA_DONE) {
+        printf("refused %lu %lu: %s\n", (unsigned long)joined.number, (unsigned long)joined.place, words(joined.number));
         return;
     }
     printf("ring %lu\n", (unsigned long)joined.count);
@@ -34,9 +42,9 @@ static void join(const int32_t *east, const int32_t *north) {
 int main(void) {
     static const int32_t east[EACH] = {2, 2};
     static const int32_t north[EACH] = {5, 1};
-    /* the same corners in another order: a ring begins with the upper chain, so this is not an envelope (9) */
+    /* the same corners in another order: a ring begins with the upper chain, so this is not an envelope */
     static const int32_t swapped[EACH] = {1, 5};
-    /* a part beyond the limit (3), at place 1 */
+    /* a part beyond the limit, at place 1 */
     static const int32_t beyond[EACH] = {5, -1000001};
 
     join(east, north);

@@ -1,12 +1,12 @@
 /*
  * The C face of Nuoskelma: envelopes of streams, in whole numbers.
  *
- * Every function takes any input and ends. In each result, number 0 says that the call is done; any other number is a refusal's, and place is its place (0
- * where none is named). What a result does not have is 0. A refusal alters nothing that was lent, except that refusals 5 and 18 of a function with scratch
- * leave all the scratch zero.
+ * Every function takes any input and ends. In each result, number 0 says that the call is done; any other number is a refusal's (enum nuoskelma_refusal), and
+ * place is its place (0 where none is named). What a result does not have is 0. A refusal alters nothing that was lent, except that refusals 5 and 18 of a
+ * function with scratch leave all the scratch zero.
  *
- * A list passes as a pointer and a length in items. The pointer of an empty list may be anything that is not null and is aligned. A list that is written,
- * scratch among them, overlaps no other list of the call.
+ * A list passes as a pointer and a length in items. Nothing is read or written through the pointer of an empty list: it may be NULL. Any other pointer is
+ * aligned for its items. A list that is written, scratch among them, overlaps no other list of the call.
  */
 #ifndef NUOSKELMA_H
 #define NUOSKELMA_H
@@ -18,6 +18,12 @@
 extern "C" {
 #endif
 
+/* The version of this header and of the library that it is for. */
+#define NUOSKELMA_VERSION_MAJOR 0
+#define NUOSKELMA_VERSION_MINOR 1
+#define NUOSKELMA_VERSION_PATCH 0
+#define NUOSKELMA_VERSION_STRING "0.1.0"
+
 /* A part's size is at most this: hundredths of a millimetre per second. */
 #define NUOSKELMA_LIMIT 1000000
 
@@ -26,6 +32,29 @@ extern "C" {
 
 /* The words of scratch that so many samples, list items or joined corners ask for; they may hold anything before the call. */
 #define NUOSKELMA_SCRATCH(items) (16 * (size_t)(items) + 64)
+
+/* What number says in a result. A function gives those that it names below. */
+enum nuoskelma_refusal {
+    NUOSKELMA_DONE = 0,
+    NUOSKELMA_REFUSED_LENGTHS_DIFFER = 1,       /* the two lists of one thing differ in length */
+    NUOSKELMA_REFUSED_TOO_MANY = 2,             /* over 65,536 samples, list items, corners or joined corners */
+    NUOSKELMA_REFUSED_PART_BEYOND = 3,          /* a part beyond 1,000,000 */
+    NUOSKELMA_REFUSED_SCRATCH_SHORT = 4,        /* scratch too short */
+    NUOSKELMA_REFUSED_OUTPUT_SHORT = 5,         /* an output list shorter than the result */
+    NUOSKELMA_REFUSED_NO_BRIDGE = 6,            /* no bridge over a */
+    NUOSKELMA_REFUSED_NOT_LISTED = 7,           /* a listed number not below the sample count */
+    NUOSKELMA_REFUSED_NO_RANK = 8,              /* rank 0, or above the count of the numbers */
+    NUOSKELMA_REFUSED_NOT_ENVELOPE = 9,         /* not an envelope */
+    NUOSKELMA_REFUSED_NO_CORNER = 10,           /* an empty ring; a hand whose place is not below its count */
+    NUOSKELMA_REFUSED_NO_COURSE = 11,           /* the course (0, 0) */
+    NUOSKELMA_REFUSED_NOT_A_NUMBER = 12,        /* a float that is not a number */
+    NUOSKELMA_REFUSED_TOO_LARGE = 13,           /* a float beyond the limit */
+    NUOSKELMA_REFUSED_FRACTION = 14,            /* a float with a fraction */
+    NUOSKELMA_REFUSED_BAD_TEXT = 15,            /* bad text: the program alone gives it */
+    NUOSKELMA_REFUSED_VERSION = 16,             /* a record whose version is not 1 */
+    NUOSKELMA_REFUSED_RECORD = 17,              /* a record of under 5 bytes, or with a length that is not right */
+    NUOSKELMA_REFUSED_STEP_WITHOUT_BRIDGE = 18  /* a chain step's list has no bridge: this never happens */
+};
 
 /* ---- Rank picker. */
 
