@@ -28,6 +28,8 @@
    An op with 100 added is the same on a stack of its own, of 65,536 bytes and not one more: what lies below may not be touched, and a call that goes deeper
    ends this program by signal 11. Its response has one scalar more, how many bytes of that stack were used, counted down to the lowest one written.
 
+   An op with 200 added, or with both, is the same with NULL as the pointer of each slice of no bytes.
+
    Ends with status 0 when the input ends after a response, 3 at an op that is unknown, 4 at a request that is cut or not of its op's form, 5 if a
    guarded byte was altered. */
 
@@ -174,8 +176,10 @@ static uint32_t get_u32(void) {
 
 /* ---- what is lent, and what is said */
 
+/* where its bytes are, and the pointer that is lent: the same, or NULL */
 struct slice {
     uint8_t *at;
+    uint8_t *lent;
     size_t bytes;
 };
 
@@ -195,10 +199,11 @@ static void guard(void) {
     room_end += GUARD;
 }
 
-static void get_slice(struct slice *s) {
+static void get_slice(struct slice *s, int empty_is_null) {
     size_t bytes = get_u32();
     if (bytes > ROOM || room_end + bytes + 2 * GUARD > ROOM) exit(BAD_REQUEST);
     s->at = room + room_end;
+    s->lent = bytes == 0 && empty_is_null ? NULL : s->at;
     s->bytes = bytes;
     get(s->at, bytes);
     room_end += bytes;
@@ -206,7 +211,7 @@ static void get_slice(struct slice *s) {
     guard();
 }
 
-static void get_request(void) {
+static void get_request(int empty_is_null) {
     scalar_count = get_u32();
     if (scalar_count > MOST_SCALARS) exit(BAD_REQUEST);
     get(scalars, 8 * scalar_count);
@@ -214,7 +219,7 @@ static void get_request(void) {
     if (slice_count > MOST_SLICES) exit(BAD_REQUEST);
     room_end = 0;
     guard();
-    for (size_t k = 0; k < slice_count; k++) get_slice(&slices[k]);
+    for (size_t k = 0; k < slice_count; k++) get_slice(&slices[k], empty_is_null);
     said_count = 0;
 }
 
@@ -250,10 +255,10 @@ static void form(size_t wanted_scalars, const char *wanted_slices) {
 }
 
 /* slice k as the two arguments that lend it */
-#define I32(k) (int32_t *)(void *)slices[k].at, slices[k].bytes / 4
-#define U32(k) (uint32_t *)(void *)slices[k].at, slices[k].bytes / 4
-#define F64(k) (double *)(void *)slices[k].at, slices[k].bytes / 8
-#define BYTES(k) slices[k].at, slices[k].bytes
+#define I32(k) (int32_t *)(void *)slices[k].lent, slices[k].bytes / 4
+#define U32(k) (uint32_t *)(void *)slices[k].lent, slices[k].bytes / 4
+#define F64(k) (double *)(void *)slices[k].lent, slices[k].bytes / 8
+#define BYTES(k) slices[k].lent, slices[k].bytes
 
 static int64_t bits_of(double x) {
     int64_t bits;
@@ -415,7 +420,7 @@ static void answer(uint32_t op) {
 
 /* ---- the small stack */
 
-enum { SMALL_STACK = 1 << 16, BELOW_IT = 1 << 20, ON_SMALL_STACK = 100 };
+enum { SMALL_STACK = 1 << 16, BELOW_IT = 1 << 20 };
 
 /* as Linux has them on x86-64 */
 enum { NO_USE = 0, READ_AND_WRITE = 3, PRIVATE_AND_FRESH = 0x22 };
@@ -444,10 +449,15 @@ static void answer_on_small_stack(uint32_t op) {
     say((int64_t)(SMALL_STACK - unused));
 }
 
+/* what is added to an op */
+enum { ON_SMALL_STACK = 100, EMPTY_IS_NULL = 200 };
+
 int main(void) {
     while (more()) {
         uint32_t op = get_u32();
-        get_request();
+        int empty_is_null = op >= EMPTY_IS_NULL;
+        if (empty_is_null) op -= EMPTY_IS_NULL;
+        get_request(empty_is_null);
         if (op < ON_SMALL_STACK) {
             answer(op);
         } else {

@@ -23,6 +23,7 @@ enum {
     ONE_EAST,           /* ring: the count is wrong if all samples have one east */
     LIMIT_REFUSED,      /* part: 1,000,000 is refused */
     FIRST_RING,         /* join: the first ring is the answer */
+    NULL_READ,          /* cover: a word is read through the pointer of an empty list */
     DEEP                /* pick: 65,536 numbers take more than 64 KiB of stack */
 };
 #ifndef FAULT
@@ -102,6 +103,7 @@ static nuoskelma_strongest_set faulty_strongest(const int32_t *east, size_t east
 static nuoskelma_cover_told faulty_cover(const int32_t *east, size_t east_len, const int32_t *north, size_t north_len, int32_t x, int32_t y) {
     nuoskelma_cover_told r = nuoskelma_cover(east, east_len, north, north_len, x, y);
     if (FAULT == PLACE && r.number == 3 && r.place > 0) r.place--;
+    if (FAULT == NULL_READ && north_len == 0) (void)*(const volatile int32_t *)north;
     if (middle(east_len) && r.number == 0) r.covered ^= 1;
     return r;
 }

@@ -21,7 +21,7 @@ pub mod turn_about;
 use crate::driver::{
     Desk, Entry, BRIDGE, CHAINS, COVER, HAND_FOR, HAND_STEP, JOIN, PART, PICK, READINGS, RECORD, RING, ROUND, STRONGEST, TURN_ABOUT,
 };
-use crate::gen::Chance;
+use crate::gen::{Chance, Samples};
 use crate::rules::{scratch_for, Answer};
 
 /// The cases of an entry, or of the two of the hand.
@@ -36,6 +36,8 @@ pub struct Cases {
     pub all: fn(&mut Desk),
     /// lists of 256 to 65,536 items, of every kind; the hand and one part take no list
     pub middle: Option<fn(&mut Desk)>,
+    /// every choice of its lists left empty; the hand and one part take no list
+    pub empty: Option<fn(&mut Desk)>,
     /// the cases of as many samples, numbers, readings or corners as are taken, and of one more
     pub largest: fn(&mut Desk),
 }
@@ -46,26 +48,35 @@ const fn cases(
     soundings: fn(&mut Desk),
     all: fn(&mut Desk),
     middle: Option<fn(&mut Desk)>,
+    empty: Option<fn(&mut Desk)>,
     largest: fn(&mut Desk),
 ) -> Cases {
-    Cases { name, functions, soundings, all, middle, largest }
+    Cases { name, functions, soundings, all, middle, empty, largest }
 }
 
 /// Every entry: `face::hold` holds this list to the header.
 pub const ENTRIES: [Cases; 13] = [
-    cases("pick", &[&PICK], soundings::pick, pick::cases, Some(pick::middle), pick::largest),
-    cases("round", &[&ROUND], soundings::round, round::cases, Some(round::middle), round::largest),
-    cases("bridge", &[&BRIDGE], soundings::bridge, bridge::cases, Some(bridge::middle), bridge::largest),
-    cases("chains", &[&CHAINS], soundings::chains, chains::cases, Some(chains::middle), chains::largest),
-    cases("ring", &[&RING], soundings::ring, ring::cases, Some(ring::middle), ring::largest),
-    cases("hand", &[&HAND_FOR, &HAND_STEP], soundings::hand, hand::cases, None, soundings::hand),
-    cases("strongest", &[&STRONGEST], soundings::strongest, strongest::cases, Some(strongest::middle), strongest::largest),
-    cases("cover", &[&COVER], soundings::cover, cover::cases, Some(cover::middle), cover::largest),
-    cases("turn_about", &[&TURN_ABOUT], soundings::turn_about, turn_about::cases, Some(turn_about::middle), turn_about::largest),
-    cases("join", &[&JOIN], soundings::join, join::cases, Some(join::middle), join::largest),
-    cases("part", &[&PART], soundings::part, part::cases, None, soundings::part),
-    cases("readings", &[&READINGS], soundings::readings, readings::cases, Some(readings::middle), readings::largest),
-    cases("record", &[&RECORD], soundings::record, record::cases, Some(record::middle), record::largest),
+    cases("pick", &[&PICK], soundings::pick, pick::cases, Some(pick::middle), Some(pick::empty), pick::largest),
+    cases("round", &[&ROUND], soundings::round, round::cases, Some(round::middle), Some(round::empty), round::largest),
+    cases("bridge", &[&BRIDGE], soundings::bridge, bridge::cases, Some(bridge::middle), Some(bridge::empty), bridge::largest),
+    cases("chains", &[&CHAINS], soundings::chains, chains::cases, Some(chains::middle), Some(chains::empty), chains::largest),
+    cases("ring", &[&RING], soundings::ring, ring::cases, Some(ring::middle), Some(ring::empty), ring::largest),
+    cases("hand", &[&HAND_FOR, &HAND_STEP], soundings::hand, hand::cases, None, None, soundings::hand),
+    cases("strongest", &[&STRONGEST], soundings::strongest, strongest::cases, Some(strongest::middle), Some(strongest::empty), strongest::largest),
+    cases("cover", &[&COVER], soundings::cover, cover::cases, Some(cover::middle), Some(cover::empty), cover::largest),
+    cases(
+        "turn_about",
+        &[&TURN_ABOUT],
+        soundings::turn_about,
+        turn_about::cases,
+        Some(turn_about::middle),
+        Some(turn_about::empty),
+        turn_about::largest,
+    ),
+    cases("join", &[&JOIN], soundings::join, join::cases, Some(join::middle), Some(join::empty), join::largest),
+    cases("part", &[&PART], soundings::part, part::cases, None, None, soundings::part),
+    cases("readings", &[&READINGS], soundings::readings, readings::cases, Some(readings::middle), Some(readings::empty), readings::largest),
+    cases("record", &[&RECORD], soundings::record, record::cases, Some(record::middle), Some(record::empty), record::largest),
 ];
 
 /// A result's number and place, then its other fields, which are 0 at a refusal.
@@ -107,4 +118,30 @@ fn output_length(chance: &mut Chance, result: usize) -> usize {
         4 | 5 => result + chance.below(20),
         _ => result,
     }
+}
+
+/// The words for a case in which lists are left empty.
+const EMPTY: &str = "lists left empty";
+
+/// Which of an entry's lists are left empty: bit k says it of list k.
+struct Choice(u32);
+
+impl Choice {
+    fn of<T: Clone>(&self, k: u32, list: &[T]) -> Vec<T> {
+        if self.0 >> k & 1 == 1 {
+            Vec::new()
+        } else {
+            list.to_vec()
+        }
+    }
+
+    /// Lists k and k + 1.
+    fn of_two(&self, k: u32, samples: &Samples) -> Samples {
+        Samples { east: self.of(k, &samples.east), north: self.of(k + 1, &samples.north) }
+    }
+}
+
+/// Every choice of one of so many lists or more, each twice: the desk lends the empty lists of one with NULL and those of the next with an address.
+fn choices(lists: u32) -> impl Iterator<Item = Choice> {
+    (1..1 << lists).flat_map(|choice| [Choice(choice), Choice(choice)])
 }

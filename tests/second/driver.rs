@@ -124,9 +124,27 @@ pub struct Case {
     pub altered: Vec<(usize, Lent)>,
 }
 
-fn request(entry: &Entry, stack: Stack, scalars: &[i64], lent: &[Lent]) -> Vec<u8> {
+/// The pointer that an empty list is lent with.
+#[derive(Clone, Copy, PartialEq, Eq)]
+enum Empty {
+    Address,
+    Null,
+}
+
+impl Empty {
+    /// Every other time, so that a case that is put twice has both.
+    fn at(time: u64) -> Empty {
+        if time % 2 == 0 {
+            Empty::Null
+        } else {
+            Empty::Address
+        }
+    }
+}
+
+fn request(entry: &Entry, stack: Stack, empty: Empty, scalars: &[i64], lent: &[Lent]) -> Vec<u8> {
     let mut bytes = Vec::new();
-    let op = entry.op + if stack == Stack::Small { ON_SMALL_STACK } else { 0 };
+    let op = entry.op + if stack == Stack::Small { ON_SMALL_STACK } else { 0 } + if empty == Empty::Null { EMPTY_IS_NULL } else { 0 };
     bytes.extend(op.to_le_bytes());
     bytes.extend((scalars.len() as u32).to_le_bytes());
     bytes.extend(scalars.iter().flat_map(|x| x.to_le_bytes()));
@@ -148,13 +166,14 @@ impl Case {
         }
     }
 
-    fn shown(&self) -> String {
+    fn shown(&self, empty: Empty) -> String {
         let mut text = format!("entry {}, case: {}\n", self.entry.name, self.words);
         for (name, scalar) in self.entry.scalars.iter().zip(&self.scalars) {
             text += &format!("  lent {name}: {scalar} ({scalar:#x})\n");
         }
         for (name, slice) in self.entry.slices.iter().zip(&self.lent) {
-            text += &format!("  lent {name}: {}\n", slice.shown());
+            let null = if empty == Empty::Null && slice.length() == 0 { " (NULL)" } else { "" };
+            text += &format!("  lent {name}{null}: {}\n", slice.shown());
         }
         text
     }
@@ -196,22 +215,29 @@ pub enum Stack {
 /// So many bytes has the driver's small stack.
 pub const SMALL_STACK: i64 = 65_536;
 
-/// What the driver adds to an op that it runs on the small stack.
+/// What is added to an op that the driver runs on the small stack.
 const ON_SMALL_STACK: u32 = 100;
+
+/// What is added to an op for which the driver lends empty lists with the pointer NULL.
+const EMPTY_IS_NULL: u32 = 200;
 
 /// Where cases are put to be compared.
 pub struct Desk {
     stack: Stack,
+    /// how many cases with an empty list were put
+    empty: u64,
     to_driver: BufWriter<ChildStdin>,
-    to_reader: Sender<Case>,
+    to_reader: Sender<(Case, Empty)>,
 }
 
 impl Desk {
     /// The reader is told of the case before the driver is, so it never waits for one that it does not know. A driver that has ended is noticed by the
     /// reader, so nothing is made of that here.
     pub fn put(&mut self, case: Case) {
-        let request = request(case.entry, self.stack, &case.scalars, &case.lent);
-        let _ = self.to_reader.send(case);
+        let empty = Empty::at(self.empty);
+        self.empty += case.lent.iter().any(|list| list.length() == 0) as u64;
+        let request = request(case.entry, self.stack, empty, &case.scalars, &case.lent);
+        let _ = self.to_reader.send((case, empty));
         let _ = self.to_driver.write_all(&request);
     }
 }
@@ -257,12 +283,13 @@ pub struct Kind {
     pub deepest: i64,
 }
 
-/// What was compared: kind by kind in the order in which they came; how many cases each function of the C face had; and how many had a first list of 2 to the
-/// k items or more, and fewer than twice as many, for each k.
+/// What was compared: kind by kind in the order in which they came; how many cases each function of the C face had; in how many each list of a function was
+/// lent as NULL, by the names of both; and how many had a first list of 2 to the k items or more, and fewer than twice as many, for each k.
 #[derive(Default)]
 pub struct Compared {
     pub kinds: Vec<Kind>,
     pub functions: BTreeMap<&'static str, u64>,
+    pub nulls: BTreeMap<(&'static str, &'static str), u64>,
     pub lengths: BTreeMap<u32, u64>,
 }
 
@@ -271,7 +298,7 @@ impl Compared {
         self.kinds.iter().map(|kind| kind.count).sum()
     }
 
-    fn add(&mut self, case: &Case, used: i64) {
+    fn add(&mut self, case: &Case, empty: Empty, used: i64) {
         match self.kinds.iter_mut().find(|kind| kind.words == case.words) {
             Some(kind) => {
                 kind.count += 1;
@@ -280,6 +307,9 @@ impl Compared {
             None => self.kinds.push(Kind { words: case.words, count: 1, deepest: used }),
         }
         *self.functions.entry(case.entry.name).or_default() += 1;
+        for (name, _) in case.entry.slices.iter().zip(&case.lent).filter(|(_, list)| empty == Empty::Null && list.length() == 0) {
+            *self.nulls.entry((case.entry.name, name)).or_default() += 1;
+        }
         if let Some(power) = case.lent.first().and_then(|list| list.items().checked_ilog2()) {
             *self.lengths.entry(power).or_default() += 1;
         }
@@ -290,7 +320,7 @@ impl Compared {
 struct Running {
     child: Child,
     from_driver: BufReader<ChildStdout>,
-    from_desk: Receiver<Case>,
+    from_desk: Receiver<(Case, Empty)>,
     writer: JoinHandle<()>,
 }
 
@@ -309,7 +339,7 @@ fn start(driver: &str, stack: Stack, cases: impl FnOnce(&mut Desk) + Send + 'sta
     let to_driver = BufWriter::with_capacity(1 << 16, child.stdin.take().expect("the driver's input is a pipe"));
     let from_driver = BufReader::with_capacity(1 << 16, child.stdout.take().expect("the driver's output is a pipe"));
     let writer = std::thread::spawn(move || {
-        let mut desk = Desk { stack, to_driver, to_reader };
+        let mut desk = Desk { stack, empty: 0, to_driver, to_reader };
         cases(&mut desk);
         let _ = desk.to_driver.flush();
     });
@@ -320,18 +350,18 @@ fn start(driver: &str, stack: Stack, cases: impl FnOnce(&mut Desk) + Send + 'sta
 pub fn compare(driver: &str, stack: Stack, cases: impl FnOnce(&mut Desk) + Send + 'static) -> Compared {
     let Running { mut child, mut from_driver, from_desk, writer } = start(driver, stack, cases);
     let mut compared = Compared::default();
-    for case in from_desk {
+    for (case, empty) in from_desk {
         match read_response(&mut from_driver) {
             Ok((mut said, slices)) => {
                 let used = if stack == Stack::Small { said.pop().unwrap_or(SMALL_STACK) } else { 0 };
                 if let Some(difference) = case.difference(&said, &slices) {
-                    fail(format!("DIFFERENCE in case {}\n{}{difference}", compared.count() + 1, case.shown()));
+                    fail(format!("DIFFERENCE in case {}\n{}{difference}", compared.count() + 1, case.shown(empty)));
                 }
-                compared.add(&case, used);
+                compared.add(&case, empty, used);
             }
             Err(error) => {
                 let status = child.wait().map_or("unknown".to_string(), |status| status.to_string());
-                fail(format!("NO RESPONSE to case {} ({error}; the driver: {status})\n{}", compared.count() + 1, case.shown()));
+                fail(format!("NO RESPONSE to case {} ({error}; the driver: {status})\n{}", compared.count() + 1, case.shown(empty)));
             }
         }
     }
@@ -373,7 +403,8 @@ impl Library {
     /// other.
     pub fn call(&mut self, entry: &'static Entry, scalars: &[i64], lent: &[Lent]) -> (Vec<i64>, Vec<Lent>) {
         self.calls += 1;
-        let wrote = self.to_driver.write_all(&request(entry, Stack::Ordinary, scalars, lent)).and_then(|()| self.to_driver.flush());
+        let wrote =
+            self.to_driver.write_all(&request(entry, Stack::Ordinary, Empty::at(self.calls), scalars, lent)).and_then(|()| self.to_driver.flush());
         match wrote.and_then(|()| read_response(&mut self.from_driver)) {
             Ok((said, slices)) if said.len() == entry.fields.len() && slices.len() == lent.len() => {
                 (said, lent.iter().zip(&slices).map(|(lent, left)| lent.alike(left)).collect())

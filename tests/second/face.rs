@@ -8,6 +8,9 @@ use crate::driver::fail;
 
 pub const HEADER: &str = "include/nuoskelma.h";
 
+/// The last number for no.
+const LAST: u32 = 18;
+
 /// The driver as it is compiled, and what it is compiled from.
 const OBJECT: &str = "target/driver/driver.o";
 const SOURCE: &str = "tests/driver/driver.c";
@@ -44,8 +47,16 @@ fn structs(header: &str) -> Vec<(String, Vec<String>)> {
     named.map(|(fields, name)| (name, fields.split(';').map(field).filter(|field| !field.is_empty()).collect())).collect()
 }
 
-/// Before anything is run: the functions that the list of entries compares are the header's, one by one, those over lists at middle sizes too; the driver that
-/// is built calls each; and the driver's source holds the size of every struct and the place of every field.
+/// The numbers of the header's enum, in its order.
+fn numbers(header: &str) -> Vec<String> {
+    let plain = plain(header);
+    let body = plain.split_once("enum nuoskelma_refusal {").and_then(|(_, rest)| rest.split_once('}')).map_or("", |(body, _)| body);
+    body.split(',').filter_map(|one| one.split_once('=')).map(|(_, number)| number.trim().to_string()).collect()
+}
+
+/// Before anything is run: the functions that the list of entries compares are the header's, one by one, those over lists at middle sizes and with empty ones
+/// too; the driver that is built calls each; the driver's source holds the size of every struct and the place of every field; and the header's enum has a name
+/// for 0, which says that the call is done, and for each number for no.
 pub fn hold(header: &str) {
     let wanted = declared(&text(header));
     let listed: Vec<String> = ENTRIES.iter().flat_map(|entry| entry.functions).map(|function| function.name.to_string()).collect();
@@ -60,8 +71,8 @@ pub fn hold(header: &str) {
         fail(format!("NOT DECLARED: an entry compares nuoskelma_{function}, which {header} does not declare"));
     }
     let lent_lists = |entry: &&Cases| entry.functions.iter().any(|function| !function.slices.is_empty());
-    if let Some(entry) = ENTRIES.iter().filter(lent_lists).find(|entry| entry.middle.is_none()) {
-        fail(format!("NOT COMPARED: {} at middle sizes", entry.name));
+    if let Some(entry) = ENTRIES.iter().filter(lent_lists).find(|entry| entry.middle.is_none() || entry.empty.is_none()) {
+        fail(format!("NOT COMPARED: {} at middle sizes, or with lists left empty", entry.name));
     }
     // a name that the object has is one that it calls: the object is made of the driver alone
     let object = read(OBJECT);
@@ -79,10 +90,15 @@ pub fn hold(header: &str) {
             fail(format!("NOT HELD: {SOURCE} has no {}..)", missing.trim()));
         }
     }
+    let numbers = numbers(&text(header));
+    if numbers != (0..=LAST).map(|number| number.to_string()).collect::<Vec<_>>() {
+        fail(format!("NOT NAMED: the enum of {header} has names for {numbers:?} and not for 0 to {LAST}"));
+    }
     println!(
-        "{header}: {} functions, each compared by an entry and called by the driver; {} structs, their layout held",
+        "{header}: {} functions, each compared by an entry and called by the driver; {} structs, their layout held; {} numbers with a name",
         wanted.len(),
-        structs.len()
+        structs.len(),
+        numbers.len()
     );
 }
 

@@ -2,7 +2,7 @@
 //!
 //! `second self` holds the rules of this program against a still plainer way, and against the soundings.
 //! `second [driver=COMMAND] ENTRY..` compares each named entry, and says how many cases it compared: the soundings that are run, short lists and the largest,
-//! lists of middle sizes.
+//! lists of middle sizes, lists left empty.
 //! `second [driver=COMMAND] all` compares every entry, and holds that each function of the header was compared.
 //! `second [driver=COMMAND] stack ENTRY..` compares each entry named after it on a stack of 65,536 bytes, and says how deep it went; so does `stack all`.
 //! `second [driver=COMMAND] laws` holds the library against itself.
@@ -62,6 +62,20 @@ fn hold_middle(entry: &Cases, compared: &Compared) {
     println!("{}: middle sizes: {} cases, all agree; from 256, 512, .. 32,768 items on: {}", entry.name, compared.count(), each.join(", "));
 }
 
+/// Each list of each function was lent as NULL.
+fn hold_empty(entry: &Cases, compared: &Compared) {
+    let mut fewest = u64::MAX;
+    for function in entry.functions {
+        for slice in function.slices {
+            match compared.nulls.get(&(function.name, *slice)) {
+                Some(&count) => fewest = fewest.min(count),
+                None => fail(format!("NOT COMPARED: {}, {slice} lent as NULL", function.name)),
+            }
+        }
+    }
+    println!("{}: lists left empty: {} cases, all agree; each list was lent as NULL in {fewest} or more", entry.name, compared.count());
+}
+
 fn compare(driver: &str, entry: &Cases, counts: &mut Counts) {
     let start = Instant::now();
     let soundings = driver::compare(driver, Stack::Ordinary, entry.soundings);
@@ -71,6 +85,11 @@ fn compare(driver: &str, entry: &Cases, counts: &mut Counts) {
     if let Some(middle) = entry.middle {
         let compared = driver::compare(driver, Stack::Ordinary, middle);
         hold_middle(entry, &compared);
+        parts.push(compared);
+    }
+    if let Some(empty) = entry.empty {
+        let compared = driver::compare(driver, Stack::Ordinary, empty);
+        hold_empty(entry, &compared);
         parts.push(compared);
     }
     parts.push(driver::compare(driver, Stack::Ordinary, entry.all));

@@ -32,7 +32,7 @@ pub fn refuse<T>(number: u32, place: usize) -> Answer<T> {
 }
 
 /// The scratch that an entry over `count` samples, list items or joined corners needs.
-pub fn scratch_for(count: usize) -> usize {
+pub const fn scratch_for(count: usize) -> usize {
     16 * count + 64
 }
 

@@ -1,6 +1,6 @@
 //! Cases of the bridge.
 
-use super::{enough_scratch, fields, scratch};
+use super::{choices, enough_scratch, fields, scratch, EMPTY};
 use crate::driver::{Case, Desk, Lent, BRIDGE};
 use crate::gen::{cut, input_a, of_every_kind, of_middle_sizes, samples, spoil, spoil_lengths, spoil_parts, times, too_many, Chance, Samples};
 use crate::rules::chain::bridge;
@@ -83,5 +83,12 @@ pub fn largest(desk: &mut Desk) {
     for long in too_many() {
         put(desk, "too many samples", long.clone(), 3, vec![7; scratch_for(MOST + 1)]);
         put(desk, "too many samples, no scratch", long, 3, Vec::new());
+    }
+}
+
+/// Every choice of lists left empty, of a call that is done where none is.
+pub fn empty(desk: &mut Desk) {
+    for choice in choices(3) {
+        put(desk, EMPTY, choice.of_two(0, &input_a()), 1, choice.of(2, &[7; scratch_for(7)]));
     }
 }

@@ -1,6 +1,6 @@
 //! Cases of the join: overlapping, nested, touching, equal, empty and one-corner rings, almost rings, and chains of joins in random grouping.
 
-use super::{enough_scratch, fields, output_length, scratch};
+use super::{choices, enough_scratch, fields, output_length, scratch, EMPTY};
 use crate::driver::{Case, Desk, Lent, JOIN};
 use crate::gen::{
     almost_ring, changed, large_ring, of_every_kind, of_middle_sizes, ring, spoil_lengths, spoil_parts, times, too_many, Chance, Samples,
@@ -191,4 +191,13 @@ pub fn largest(desk: &mut Desk) {
     second.east.extend([7, 7]);
     second.north.extend([7, 7]);
     put(desk, "65,538 joined corners, of a second ring that is none", first, second, outputs(1, 1, 0));
+}
+
+/// Every choice of lists left empty, of a call that is done where none is.
+pub fn empty(desk: &mut Desk) {
+    let (first, second) = (Samples::of(&[at(2, 5), at(2, 1)]), Samples::of(&[at(0, 0), at(4, 0)]));
+    for choice in choices(7) {
+        let outputs = Outputs { east: choice.of(4, &[9; 3]), north: choice.of(5, &[9; 3]), scratch: choice.of(6, &[7; scratch_for(4)]) };
+        put(desk, EMPTY, choice.of_two(0, &first), choice.of_two(2, &second), outputs);
+    }
 }

@@ -1,6 +1,6 @@
 //! Cases of the rank picker: lists of every span, ranks at the ends and beyond them.
 
-use super::{enough_scratch, fields, scratch};
+use super::{choices, enough_scratch, fields, scratch, EMPTY};
 use crate::driver::{Case, Desk, Lent, PICK};
 use crate::gen::{of_middle_sizes, times, Chance, Samples};
 use crate::rules::rank::pick;
@@ -116,4 +116,11 @@ pub fn largest(desk: &mut Desk) {
     }
     let numbers = maker(&mut chance, MOST + 1);
     put(desk, "one number too many, no scratch", numbers, 1, Vec::new());
+}
+
+/// Every choice of lists left empty, of a call that is done where none is.
+pub fn empty(desk: &mut Desk) {
+    for choice in choices(2) {
+        put(desk, EMPTY, choice.of(0, &[3, 1, 2]), 2, choice.of(1, &[7; scratch_for(3)]));
+    }
 }

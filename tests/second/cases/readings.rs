@@ -1,7 +1,7 @@
 //! Cases of readings: good ones, and the bad one in every place.
 
-use super::output_length;
 use super::part::{NOT_NUMBERS, SPECIAL};
+use super::{choices, output_length, EMPTY};
 use crate::driver::{Case, Desk, Lent, READINGS};
 use crate::gen::{of_middle_sizes, place, times, Chance};
 use crate::rules::chain::Position;
@@ -133,4 +133,13 @@ pub fn largest(desk: &mut Desk) {
     put(desk, "one reading too many, the first one bad", lists.clone(), Vec::new(), Vec::new());
     lists.east.pop();
     put(desk, "one north too many", lists, Vec::new(), Vec::new());
+}
+
+/// Every choice of lists left empty, of a call that is done where none is.
+pub fn empty(desk: &mut Desk) {
+    let whole = [1f64, -2.0, 3.0].map(f64::to_bits);
+    for choice in choices(4) {
+        let lists = Readings { east: choice.of(0, &whole), north: choice.of(1, &whole) };
+        put(desk, EMPTY, lists, choice.of(2, &[9; 3]), choice.of(3, &[9; 3]));
+    }
 }

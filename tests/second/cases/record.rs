@@ -1,6 +1,6 @@
 //! Cases of the record reader: whole records, cut ones, ones with bytes too many or a bit flipped, and ones of no envelope.
 
-use super::{fields, output_length};
+use super::{choices, fields, output_length, EMPTY};
 use crate::driver::{Case, Desk, Lent, RECORD};
 use crate::gen::{almost_ring, input_a, large_ring, place, ring, rings_of_middle_sizes, spoil_parts, times, Chance, Samples, MOST_CORNERS};
 use crate::rules::chain::{at, ring_of};
@@ -137,5 +137,13 @@ pub fn largest(desk: &mut Desk) {
     for count in [MOST, MOST + 1] {
         put_enough(desk, chance, "most corners or one more, no ring", record_of(&vec![at(5, 5); count]));
         put_enough(desk, chance, "most corners or one more, beyond the limit", record_of(&vec![at(5, 1_000_001); count]));
+    }
+}
+
+/// Every choice of lists left empty, of a call that is done where none is.
+pub fn empty(desk: &mut Desk) {
+    let bytes = record_of(&ring_of(&input_a().positions()));
+    for choice in choices(3) {
+        put(desk, EMPTY, choice.of(0, &bytes), choice.of(1, &[9; 5]), choice.of(2, &[9; 5]));
     }
 }

@@ -1,6 +1,6 @@
 //! Cases of the ring.
 
-use super::{enough_scratch, fields, output_length, scratch};
+use super::{choices, enough_scratch, fields, output_length, scratch, EMPTY};
 use crate::driver::{Case, Desk, Lent, RING};
 use crate::gen::{
     input_a, of_every_kind, of_middle_sizes, of_some_kinds, samples, spoil, spoil_lengths, spoil_parts, times, too_many, Chance, Samples,
@@ -88,5 +88,12 @@ pub fn largest(desk: &mut Desk) {
     put(desk, "one sample too many", long, vec![8; 9], vec![9; 9], vec![7; scratch_for(MOST + 1)]);
     for long in too_many() {
         put(desk, "too many samples, nothing else", long, Vec::new(), Vec::new(), Vec::new());
+    }
+}
+
+/// Every choice of lists left empty, of a call that is done where none is.
+pub fn empty(desk: &mut Desk) {
+    for choice in choices(5) {
+        put(desk, EMPTY, choice.of_two(0, &input_a()), choice.of(2, &[9; 5]), choice.of(3, &[9; 5]), choice.of(4, &[7; scratch_for(7)]));
     }
 }

@@ -1,10 +1,10 @@
 //! Cases of the round: every round from a first list to its bridge.
 
-use super::{enough_scratch, fields, output_length, scratch};
+use super::{choices, enough_scratch, fields, output_length, scratch, EMPTY};
 use crate::driver::{Case, Desk, Lent, ROUND};
 use crate::gen::{cut, input_a, of_every_kind, of_middle_sizes, place, samples, spoil_lengths, spoil_parts, times, too_many, Chance, Samples};
 use crate::rules::round::{round, said, Said};
-use crate::rules::{has_bridge, LIMIT, MOST};
+use crate::rules::{has_bridge, scratch_for, LIMIT, MOST};
 
 struct Round {
     words: &'static str,
@@ -183,5 +183,13 @@ pub fn largest(desk: &mut Desk) {
     for samples in [samples, spoilt] {
         let list = vec![10; MOST + 1];
         Round { words: "too many list items, bad ones", samples, list, a: 0 }.put(desk, Vec::new(), Vec::new());
+    }
+}
+
+/// Every choice of lists left empty, of a call that is done where none is.
+pub fn empty(desk: &mut Desk) {
+    for choice in choices(5) {
+        let round = Round { words: EMPTY, samples: choice.of_two(0, &input_a()), list: choice.of(2, &[3, 4, 5, 2]), a: 1 };
+        round.put(desk, choice.of(3, &[9; 2]), choice.of(4, &[7; scratch_for(4)]));
     }
 }

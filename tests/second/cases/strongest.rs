@@ -1,6 +1,6 @@
 //! Cases of the strongest set: courses across the edges, where two corners have it, and beside them.
 
-use super::fields;
+use super::{choices, fields, EMPTY};
 use crate::driver::{Case, Desk, Lent, STRONGEST};
 use crate::gen::{
     almost_ring, input_a, large_ring, ring, rings_of_middle_sizes, spoil, spoil_lengths, spoil_parts, times, too_many, Chance, Samples, MOST_CORNERS,
@@ -102,5 +102,12 @@ pub fn largest(desk: &mut Desk) {
     for long in too_many() {
         put(desk, "too many corners", long.clone(), (1, 1));
         put(desk, "too many corners", long, (LIMIT + 1, 0));
+    }
+}
+
+/// Every choice of lists left empty, of a call that is done where none is.
+pub fn empty(desk: &mut Desk) {
+    for choice in choices(2) {
+        put(desk, EMPTY, choice.of_two(0, &Samples::of(&ring_of(&input_a().positions()))), (-1, 1));
     }
 }

@@ -1,10 +1,11 @@
 //! Cases of turning about.
 
-use super::{fields, output_length};
+use super::{choices, fields, output_length, EMPTY};
 use crate::driver::{Case, Desk, Lent, TURN_ABOUT};
 use crate::gen::{
-    almost_ring, large_ring, ring, rings_of_middle_sizes, spoil, spoil_lengths, spoil_parts, times, too_many, Chance, Samples, MOST_CORNERS,
+    almost_ring, input_a, large_ring, ring, rings_of_middle_sizes, spoil, spoil_lengths, spoil_parts, times, too_many, Chance, Samples, MOST_CORNERS,
 };
+use crate::rules::chain::ring_of;
 use crate::rules::using::turn_about;
 use crate::rules::MOST;
 
@@ -64,5 +65,13 @@ pub fn largest(desk: &mut Desk) {
     for long in too_many() {
         put(desk, "too many corners", long.clone(), vec![8; MOST + 1], vec![9; MOST + 1]);
         put(desk, "too many corners, no outputs", long, Vec::new(), Vec::new());
+    }
+}
+
+/// Every choice of lists left empty, of a call that is done where none is.
+pub fn empty(desk: &mut Desk) {
+    for choice in choices(4) {
+        let ring = Samples::of(&ring_of(&input_a().positions()));
+        put(desk, EMPTY, choice.of_two(0, &ring), choice.of(2, &[9; 5]), choice.of(3, &[9; 5]));
     }
 }
