@@ -187,10 +187,15 @@ fn without_last(text: &[u8]) -> Vec<u8> {
     text[..text.len() - 1].to_vec()
 }
 
-/// The texts of the page of the rules, and beside them one of each refusal.
+/// A sample that README shows with its ring.
+const TIDAL_CELL: &str = "samples/tidal-cell.txt";
+
+/// The texts of the page of the rules, and beside them one of each refusal, and the tidal cell.
 pub fn few_texts() -> Vec<Vec<u8>> {
     let full = b"3 4\n".repeat(512);
+    let tidal_cell = std::fs::read(TIDAL_CELL).unwrap_or_else(|error| fail(format!("{TIDAL_CELL} is not read: {error}")));
     vec![
+        tidal_cell,
         INPUT_A.to_vec(),
         Vec::new(),
         b"1 1\n2 2\n3  3\n".to_vec(),
