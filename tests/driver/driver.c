@@ -28,7 +28,8 @@
    An op with 100 added is the same on a stack of its own, of 65,536 bytes and not one more: what lies below may not be touched, and a call that goes deeper
    ends this program by signal 11. Its response has one scalar more, how many bytes of that stack were used, counted down to the lowest one written.
 
-   An op with 200 added, or with both, is the same with NULL as the pointer of each slice of no bytes.
+   An op with 200 added, or with both, is the same with NULL as the pointer of each slice of no bytes. All earlier responses are out before it, so that it is the
+   first without one if it ends this program.
 
    Ends with status 0 when the input ends after a response, 3 at an op that is unknown, 4 at a request that is cut or not of its op's form, 5 if a
    guarded byte was altered. */
@@ -458,6 +459,7 @@ int main(void) {
         int empty_is_null = op >= EMPTY_IS_NULL;
         if (empty_is_null) op -= EMPTY_IS_NULL;
         get_request(empty_is_null);
+        if (empty_is_null) flush();
         if (op < ON_SMALL_STACK) {
             answer(op);
         } else {

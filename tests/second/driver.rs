@@ -234,8 +234,11 @@ impl Desk {
     /// The reader is told of the case before the driver is, so it never waits for one that it does not know. A driver that has ended is noticed by the
     /// reader, so nothing is made of that here.
     pub fn put(&mut self, case: Case) {
-        let empty = Empty::at(self.empty);
-        self.empty += case.lent.iter().any(|list| list.length() == 0) as u64;
+        let mut empty = Empty::Address;
+        if case.lent.iter().any(|list| list.length() == 0) {
+            empty = Empty::at(self.empty);
+            self.empty += 1;
+        }
         let request = request(case.entry, self.stack, empty, &case.scalars, &case.lent);
         let _ = self.to_reader.send((case, empty));
         let _ = self.to_driver.write_all(&request);
