@@ -18,8 +18,8 @@ use Rattle.rules.specs.Bridge.{Bridge, ends, bridge, spans}
 use Rattle.rules.specs.Round.{round, rounds}
 use Rattle.rules.specs.Refusals.{Answer, done, scratch-after}
 use Rattle.rules.specs.Entries.{reported-bridge, bridge-answer}
-use Rattle.rounds.specs.Rounds.{Found, rounds-find}
-use Rattle.rounds.specs.WholeList.{numbers, numbers-length, numbers-samples, rounds-report}
+use Rattle.laws_rounds.specs.Rounds.{Found, rounds-find}
+use Rattle.laws_rounds.specs.WholeList.{numbers, numbers-length, numbers-samples, rounds-report}
 use Rattle.samples.specs.declared.tests.Tested.{Tested}
 use Rattle.samples.specs.declared.tests.Tested.the-variants as tests
 use Rattle.samples.specs.Positions.{at, Sampled}

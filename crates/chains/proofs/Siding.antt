@@ -13,25 +13,25 @@ use lib.Seq.{length-take-le, take-append-le, drop-at}
 use borrow.Rule.Slice.PartMut.{midOf, putMid, mid-len, same-len-mid, take-put}
 use Rattle.rules.specs.Streams.{Stream, streams}
 use Rattle.rules.specs.Chain.{corners, upper, lower, upper-numbers, lower-numbers}
-use Rattle.outline.specs.Lists.{those-most, those-in}
-use Rattle.rounds.specs.Items.{first-of-in}
-use Rattle.rounds.specs.Pairs.{here}
-use Rattle.rounds.specs.Steps.{BySteps}
-use Rattle.rounds.specs.WholeList.{numbers, numbers-length}
+use Rattle.laws_outline.specs.ListLaws.{those-most, those-in}
+use Rattle.laws_rounds.specs.Items.{first-of-in}
+use Rattle.laws_rounds.specs.Pairs.{here}
+use Rattle.laws_rounds.specs.Steps.{BySteps}
+use Rattle.laws_rounds.specs.WholeList.{numbers, numbers-length}
 use Rattle.samples.specs.Positions.{Listed, at, east-of}
-use Rattle.step.specs.Lists.{between, first-numbers, FirstAsks, Listing}
+use Rattle.step.specs.NumberLists.{between, first-numbers, FirstAsks, Listing}
 use Rattle.step.specs.Ends.{EndOf, nearest}
 use Rattle.step.specs.Chaining.{Chainable}
-use Rattle.step.specs.Stepping.{facing, number-at, ChainAsks, ChainSays}
+use Rattle.step.specs.Stepping.{side-samples, number-at, ChainAsks, ChainSays}
 use Rattle.step.specs.First.{first-chainable, first-chain, end-is}
 use Rattle.step.specs.declared.Stepped.{Stepped}
 use Rattle.step.specs.declared.Stepped.the-variants.{Chain, NoBridge}
-use Rattle.outline.specs.Numbers.{lower-mirrored}
-use Rattle.chains.specs.Sides.{side-numbers, SideAsks, SideIs, SideSays, BothAre}
+use Rattle.laws_outline.specs.Numbers.{lower-mirrored}
+use Rattle.chains.specs.BothSides.{side-numbers, SideAsks, SideIs, SideSays, BothAre}
 
 -- ---- the numbers of a side
 
-reported : (es ns : List ℤ) (lower : Bool) → map (number-at es ns lower) (upper (facing es ns lower)) ≡ side-numbers es ns lower
+reported : (es ns : List ℤ) (lower : Bool) → map (number-at es ns lower) (upper (side-samples es ns lower)) ≡ side-numbers es ns lower
 unfolding upper-numbers
 reported es ns true = sym (lower-mirrored (streams es ns))
 reported es ns false = refl

@@ -3,7 +3,7 @@ use step::Stepped;
 use step::chain;
 use step::ends::end_of;
 use step::lists::first;
-ghost use Rattle.chains.specs.Sides.{SideAsks, SideSays, SidesAsk, SidesSay};
+ghost use Rattle.chains.specs.BothSides.{SideAsks, SideSays, SidesAsk, SidesSay};
 
 // What is said of both sides: the counts of their corners, or that a chain step's list has no bridge over its cut.
 pub enum Sides {

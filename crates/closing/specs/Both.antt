@@ -11,17 +11,17 @@ use lib.Dec.{ltb}
 use lib.ListN.{length, getD}
 use borrow.Author.Tests.{ltb-false}
 use Rattle.rules.specs.Streams.{Stream}
-use Rattle.stack.specs.Closing.{ring-at}
+use Rattle.laws_stack.specs.ClosedPlaces.{ring-at}
 use Rattle.walk.specs.Both.{listed-at, Stand}
 
 -- ---- the ring: the upper chain's u places at the front of w, and the lower chain's l places behind them
 
 module _ (es ns fs ms : List ℤ) (w : List ℕ) (u : ℕ) where
   abbrev pub upper-at : ℕ → Stream
-  upper-at i = listed-at es ns fs ms true w i
+  upper-at i = listed-at es ns fs ms false w i
 
   abbrev pub lower-at : ℕ → Stream
-  lower-at i = listed-at es ns fs ms true w (u + i)
+  lower-at i = listed-at es ns fs ms false w (u + i)
 
   -- the ring's corner i, where the lower chain is kept up to hi
   abbrev pub ring-corner : ℕ → ℕ → Stream
@@ -59,10 +59,10 @@ ring-place-below u hi i h = go (ltb i u) refl
     go true e = h
     go false e = omega (arith, ltb-false i u e)
 
-pub ring-corner-at : (es ns fs ms : List ℤ) (w : List ℕ) (u hi i : ℕ) → listed-at es ns fs ms true w (ring-place u hi i) ≡ ring-corner es ns fs ms w u hi i
+pub ring-corner-at : (es ns fs ms : List ℤ) (w : List ℕ) (u hi i : ℕ) → listed-at es ns fs ms false w (ring-place u hi i) ≡ ring-corner es ns fs ms w u hi i
 ring-corner-at es ns fs ms w u hi i = go (ltb i u)
   where
-    go : (b : Bool) → listed-at es ns fs ms true w (cond b i (u + (hi - suc (i - u))))
-        ≡ cond b (listed-at es ns fs ms true w i) (listed-at es ns fs ms true w (u + (hi - suc (i - u))))
+    go : (b : Bool) → listed-at es ns fs ms false w (cond b i (u + (hi - suc (i - u))))
+        ≡ cond b (listed-at es ns fs ms false w i) (listed-at es ns fs ms false w (u + (hi - suc (i - u))))
     go true = refl
     go false = refl

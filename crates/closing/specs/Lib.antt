@@ -1,3 +1,3 @@
 pub mod Both
-pub mod Meaning
+pub mod RingOutcome
 pub mod Written

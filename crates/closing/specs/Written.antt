@@ -10,9 +10,9 @@ use borrow.Author.Tests.{lt-ltb, le-ltb}
 use Rattle.rules.specs.Lists.{written, zeros}
 use Rattle.rules.specs.Streams.{Stream}
 use Rattle.rules.specs.Refusals.{Answer, refused, done}
-use Rattle.stack.specs.Places.{listed, length-listed, map-listed}
-use Rattle.closing.specs.declared.Ringed.the-variants as ringed
-use Rattle.closing.specs.Meaning.{unless-short, Outcome}
+use Rattle.laws_stack.specs.Places.{listed, length-listed, map-listed}
+use Rattle.samples.specs.declared.answers.Counted.the-variants as counts
+use Rattle.closing.specs.RingOutcome.{unless-short, Outcome}
 
 -- a ring of n corners f
 module _ (R : List Stream) (f : ℕ → Stream) (n : ℕ) (e : R ≡ listed f n) (east north : List ℤ) (scratch : List ℕ) where
@@ -25,17 +25,17 @@ module _ (R : List Stream) (f : ℕ → Stream) (n : ℕ) (e : R ≡ listed f n)
 
   -- an output is too short
   short : {scratch' : List ℕ} → (ltb (length east) n || ltb (length north) n) ≡ true → scratch' ≡ zeros scratch
-      → Outcome (unless-short east north R) (ringed.Refused 5 0) east east north north scratch scratch'
+      → Outcome (unless-short east north R) (counts.Refused 5 0) east east north north scratch scratch'
   short {scratch'} h z =
-      subst (λ (a : Answer (List Stream)). Outcome a (ringed.Refused 5 0) east east north north scratch scratch') (told true h)
+      subst (λ (a : Answer (List Stream)). Outcome a (counts.Refused 5 0) east east north north scratch scratch') (told true h)
       (record { says = refl; east-after = refl; north-after = refl; scratch-is = z })
 
   pub outcome-east-short : {scratch' : List ℕ} → length east < n → scratch' ≡ zeros scratch
-      → Outcome (unless-short east north R) (ringed.Refused 5 0) east east north north scratch scratch'
+      → Outcome (unless-short east north R) (counts.Refused 5 0) east east north north scratch scratch'
   outcome-east-short h z = short (ap (λ (b : Bool). b || ltb (length north) n) (lt-ltb (length east) n h)) z
 
   pub outcome-north-short : {scratch' : List ℕ} → length north < n → scratch' ≡ zeros scratch
-      → Outcome (unless-short east north R) (ringed.Refused 5 0) east east north north scratch scratch'
+      → Outcome (unless-short east north R) (counts.Refused 5 0) east east north north scratch scratch'
   outcome-north-short h z = short (ap (λ (b : Bool). ltb (length east) n || b) (lt-ltb (length north) n h) ∙ or-true (ltb (length east) n)) z
 
   -- a part of each corner is written
@@ -46,9 +46,9 @@ module _ (R : List Stream) (f : ℕ → Stream) (n : ℕ) (e : R ≡ listed f n)
 
   pub outcome-done : {east' north' : List ℤ} {scratch' : List ℕ} → n ≤ length east → n ≤ length north
       → east' ≡ listed (λ i. f i .east) n ++ drop n east → north' ≡ listed (λ i. f i .north) n ++ drop n north → scratch' ≡ zeros scratch
-      → Outcome (unless-short east north R) (ringed.Corners n) east east' north north' scratch scratch'
+      → Outcome (unless-short east north R) (counts.Count n) east east' north north' scratch scratch'
   outcome-done {east'} {north'} {scratch'} h k p q z =
-      subst (λ (a : Answer (List Stream)). Outcome a (ringed.Corners n) east east' north north' scratch scratch')
+      subst (λ (a : Answer (List Stream)). Outcome a (counts.Count n) east east' north north' scratch scratch')
       (told false (ap₂ _||_ (le-ltb (length east) n h) (le-ltb (length north) n k)))
       (record {
         says = ap done (sym count);

@@ -2,22 +2,17 @@
 // lower left end if it equals the upper left end. Corners come from two lists, at one run of places; the second list may be empty.
 
 ghost use Rattle.rules.specs.Ring.{closed};
-ghost use Rattle.stack.specs.Places.{listed};
+ghost use Rattle.laws_stack.specs.Places.{listed};
 ghost use Rattle.walk.specs.Both.{Corners, count};
 ghost use Rattle.closing.specs.Both.{upper-at, lower-at, Both};
-ghost use Rattle.closing.specs.Meaning.{unless-short, Outcome};
+ghost use Rattle.closing.specs.RingOutcome.{unless-short, Outcome};
 use crate::lower::left_in;
 use crate::writing::put;
+use samples::answers::Counted;
 use samples::words::clear;
 
 mod lower;
 mod writing;
-
-// What comes of an entry that writes a ring: how many corners it has, or a refusal's number and place.
-pub enum Ringed {
-    Corners(usize),
-    Refused { number: u32, place: usize },
-}
 
 // The upper chain's u places and the lower chain's l places at the front of scratch, closed to a ring: written, unless an output is too short. Scratch is
 // zero either way.
@@ -31,7 +26,7 @@ pub fn close(
     out_east: &mut [i32],
     out_north: &mut [i32],
     scratch: &mut [u32],
-) -> Ringed
+) -> Counted
     requires { ⌜ Corners (now east) (now north) (now east2) (now north2)
         × Both (count (now east) (now east2)) (now scratch) u l ⌝ }
     ensures { λ r. ⌜ Outcome
@@ -46,14 +41,14 @@ pub fn close(
     let n = u + (hi - k.lo);
     if out_east.len() < n {
         clear(scratch);
-        return Ringed::Refused {
+        return Counted::Refused {
             number: 5,
             place: 0,
         };
     }
     if out_north.len() < n {
         clear(scratch);
-        return Ringed::Refused {
+        return Counted::Refused {
             number: 5,
             place: 0,
         };
@@ -71,5 +66,5 @@ pub fn close(
         out_north,
     );
     clear(scratch);
-    Ringed::Corners(n)
+    Counted::Count(n)
 }

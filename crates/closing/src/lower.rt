@@ -2,10 +2,10 @@
 // the upper left end. The upper chain's u places stand at the front of w, the lower chain's l places behind them.
 
 ghost use mathlib.Core.Path.{_≡_};
-ghost use mathlib.Core.Bool.{true};
+ghost use mathlib.Core.Bool.{false};
 ghost use Prim.Native.Nat.{_<_};
 ghost use Rattle.rules.specs.Streams.{same};
-ghost use Rattle.stack.specs.Closing.{Right, Closes};
+ghost use Rattle.laws_stack.specs.ClosedPlaces.{Right, Closes};
 ghost use Rattle.walk.specs.Both.{Corners, count, listed-at};
 ghost use Rattle.closing.specs.Both.{upper-at, lower-at, TwoOf, Both};
 use walk::corners::listed;
@@ -29,12 +29,12 @@ fn same_at(
 ) -> bool
     requires { ⌜ Corners (now east) (now north) (now east2) (now north2) × TwoOf (count (now east) (now east2)) (now w) i j ⌝ }
     ensures { λ r. ⌜ r ≡ same
-        (listed-at (now (east .entry)) (now (north .entry)) (now (east2 .entry)) (now (north2 .entry)) true (now (w .entry)) i)
-        (listed-at (now (east .entry)) (now (north .entry)) (now (east2 .entry)) (now (north2 .entry)) true (now (w .entry)) j) ⌝ }
+        (listed-at (now (east .entry)) (now (north .entry)) (now (east2 .entry)) (now (north2 .entry)) false (now (w .entry)) i)
+        (listed-at (now (east .entry)) (now (north .entry)) (now (east2 .entry)) (now (north2 .entry)) false (now (w .entry)) j) ⌝ }
 {
     same(
-        listed(east, north, east2, north2, true, w, i),
-        listed(east, north, east2, north2, true, w, j),
+        listed(east, north, east2, north2, false, w, i),
+        listed(east, north, east2, north2, false, w, j),
     )
 }
 

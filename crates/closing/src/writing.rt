@@ -4,7 +4,7 @@ ghost use mathlib.Core.Path.{_≡_};
 ghost use mathlib.Core.List.{_++_};
 ghost use Prim.Native.Nat.{_+_, _^_, _<_};
 ghost use lib.ListN.{drop};
-ghost use Rattle.stack.specs.Places.{listed};
+ghost use Rattle.laws_stack.specs.Places.{listed};
 ghost use Rattle.walk.specs.Both.{Corners, count};
 ghost use Rattle.closing.specs.Both.{ring-place, ring-corner, Room};
 use walk::corners::listed;
@@ -42,7 +42,7 @@ pub fn put(
 {
     let mut i = 0;
     while i < n {
-        let s = listed(east, north, east2, north2, true, w, place(u, hi, i));
+        let s = listed(east, north, east2, north2, false, w, place(u, hi, i));
         let e = s.east;
         let m = s.north;
         out_east[i] = e;

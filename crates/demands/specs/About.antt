@@ -9,12 +9,11 @@ use lib.IntN.{ℤ, negℤ}
 use lib.ListN.{length, take, length-reverse}
 use Rattle.rules.specs.Streams.{Stream, streams, turned}
 use Rattle.rules.specs.Chain.{upper, lower, upper-numbers, lower-numbers}
-use Rattle.outline.specs.Numbers.{lower-mirrored}
-use Rattle.rings.specs.Rings.{upper-of-ring, lower-of-ring}
-use Rattle.rings.specs.Mirror.{upper-turned, lower-turned, upper-numbers-turned, lower-numbers-turned}
+use Rattle.laws_outline.specs.Numbers.{lower-mirrored}
+use Rattle.laws_rings.specs.Rings.{upper-of-ring, lower-of-ring}
+use Rattle.laws_rings.specs.Mirror.{upper-turned, lower-turned, upper-numbers-turned, lower-numbers-turned}
 use Rattle.chains.specs.declared.ChainsAnswer.the-variants as said
-use Rattle.closing.specs.declared.Ringed.the-variants as ringed
-use Rattle.envelope.specs.declared.turn.Turned.the-variants as turn
+use Rattle.samples.specs.declared.answers.Counted.the-variants as counts
 use Rattle.demands.specs.Done.{left-ring}
 use Rattle.demands.specs.Chains as chains
 use Rattle.demands.specs.Ringed as rings
@@ -76,7 +75,7 @@ abbrev pub ring-of : rings.Ringing → ℕ → List Stream
 ring-of c n = streams (take n (rings.east-after c)) (take n (rings.north-after c))
 
 -- THE LAW, of rings: by their chains
-pub rings-about : (c d : rings.Ringing) {n m : ℕ} → c .answer ≡ ringed.Corners n → d .answer ≡ ringed.Corners m
+pub rings-about : (c d : rings.Ringing) {n m : ℕ} → c .answer ≡ counts.Count n → d .answer ≡ counts.Count m
     → About (rings.east c) (rings.north c) (rings.east d) (rings.north d)
     → (lower (ring-of d m) ≡ reverse (map turned (upper (ring-of c n)))) × (upper (ring-of d m) ≡ reverse (map turned (lower (ring-of c n))))
 rings-about c d e f h =
@@ -91,8 +90,8 @@ rings-about c d e f h =
     )
 
 -- and the second leaves what turning about leaves of the first's ring
-pub ring-turned-about : (c d : rings.Ringing) (t : turns.Turning) {n m k : ℕ} → c .answer ≡ ringed.Corners n → d .answer ≡ ringed.Corners m
-    → t .answer ≡ turn.Corners k → About (rings.east c) (rings.north c) (rings.east d) (rings.north d)
+pub ring-turned-about : (c d : rings.Ringing) (t : turns.Turning) {n m k : ℕ} → c .answer ≡ counts.Count n → d .answer ≡ counts.Count m
+    → t .answer ≡ counts.Count k → About (rings.east c) (rings.north c) (rings.east d) (rings.north d)
     → turns.east t ≡ take n (rings.east-after c) → turns.north t ≡ take n (rings.north-after c)
     → (take m (rings.east-after d) ≡ take k (turns.east-after t)) × (take m (rings.north-after d) ≡ take k (turns.north-after t))
 ring-turned-about c d t {m = m} e f g h he hn =

@@ -15,9 +15,7 @@ use Rattle.bridge.specs.declared.BridgeAnswer.the-variants as bridge-said
 use Rattle.round.specs.Promise as rounding
 use Rattle.round.specs.declared.RoundAnswer.{RoundAnswer}
 use Rattle.round.specs.declared.RoundAnswer.the-variants as round-said
-use Rattle.envelope.specs.Meaning.{turned-as, strongest-as, covered-as}
-use Rattle.envelope.specs.declared.turn.Turned.{Turned}
-use Rattle.envelope.specs.declared.turn.Turned.the-variants as turn
+use Rattle.envelope.specs.RingAnswers.{strongest-as, covered-as}
 use Rattle.envelope.specs.declared.strongest.StrongestSet.{StrongestSet}
 use Rattle.envelope.specs.declared.strongest.StrongestSet.the-variants as strongest
 use Rattle.envelope.specs.declared.cover.Covered.{Covered}
@@ -47,10 +45,6 @@ pub round-kept : (r : RoundAnswer) {m : ℕ} → rounding.answer-as r ≡ done (
 round-kept (round-said.Found i j) e = absurd (let z : _≡_ {A = ℕ} 0 1 = cc in omega arith)
 round-kept (round-said.Kept m) e = cc
 round-kept (round-said.Refused number place) e = no-answer e
-
-pub turned-corners : (r : Turned) {m : ℕ} → turned-as r ≡ done m → r ≡ turn.Corners m
-turned-corners (turn.Corners m) e = cc
-turned-corners (turn.Refused number place) e = no-answer e
 
 pub strongest-greatest : (r : StrongestSet) {s : Strongest} → strongest-as r ≡ done s → r ≡ strongest.Greatest (s .set) (s .place)
 strongest-greatest (strongest.Greatest z i) e = cc

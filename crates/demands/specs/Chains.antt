@@ -21,9 +21,10 @@ use Rattle.rules.specs.Streams.{Stream, stream, streams, sample, side, same, mi
 use Rattle.rules.specs.Chain.{Samples, Of, LeftEnd, RightEnd, Edge, Turn, Goes, stop, on, UpperChain, empty, starts, upper, lower, lowest, upper-numbers, lower-numbers}
 use Rattle.rules.specs.Refusals.{Answer, refused, done, output-short, output-after}
 use Rattle.rules.specs.Entries.{Chains, sample-tests, chains-answer}
-use Rattle.outline.specs.Lists.{at-place-in, member-counts, is-some-of, first-place-in, first-place-passes, first-place-first, is-first-place, not-both, same-equal, equal-same, no-same}
-use Rattle.outline.specs.Chains.{upper-is, upper-only, upper-corners, upper-edge, upper-turn}
-use Rattle.outline.specs.Numbers.{lower-mirrored}
+use Rattle.laws_outline.specs.ListLaws.{at-place-in, member-counts, is-some-of, first-place-in, first-place-passes, first-place-first, is-first-place, not-both}
+use Rattle.laws_outline.specs.SamePosition.{same-equal, equal-same, no-same}
+use Rattle.laws_outline.specs.Chains.{upper-is, upper-only, upper-corners, upper-edge, upper-turn}
+use Rattle.laws_outline.specs.Numbers.{lower-mirrored}
 use Rattle.samples.specs.Samples.{streams-length}
 use Rattle.chains.specs.Promise.{Counts, answer-as, counted}
 use Rattle.chains.specs.declared.ChainsAnswer.{ChainsAnswer}

@@ -22,22 +22,19 @@ use Rattle.bridge.specs.Promise.{BridgePromise}
 use Rattle.bridge.specs.declared.BridgeAnswer.{BridgeAnswer}
 use Rattle.round.specs.Promise.{RoundPromise}
 use Rattle.round.specs.declared.RoundAnswer.{RoundAnswer}
-use Rattle.closing.specs.Meaning.{Outcome}
-use Rattle.closing.specs.declared.Ringed.{Ringed}
-use Rattle.envelope.specs.Meaning.{TurnPromise, strongest-as, covered-as}
-use Rattle.envelope.specs.declared.turn.Turned.{Turned}
+use Rattle.closing.specs.RingOutcome.{Outcome}
+use Rattle.samples.specs.CountedAnswers.{counted-as}
+use Rattle.samples.specs.declared.answers.Counted.{Counted}
+use Rattle.envelope.specs.RingAnswers.{TurnPromise, strongest-as, covered-as}
 use Rattle.envelope.specs.declared.strongest.StrongestSet.{StrongestSet}
 use Rattle.envelope.specs.declared.cover.Covered.{Covered}
-use Rattle.hand.specs.Meaning.{hand-at, made-as, edge-as}
+use Rattle.hand.specs.HandAnswers.{hand-at, made-as, edge-as}
 use Rattle.hand.specs.declared.Made.{Made}
 use Rattle.hand.specs.declared.Step.{Step}
-use Rattle.door.specs.Meaning.{part-as, door-as}
+use Rattle.door.specs.DoorAnswers.{part-as, door-as}
 use Rattle.door.specs.declared.PartAnswer.{PartAnswer}
 use Rattle.door.specs.declared.ReadingsAnswer.{ReadingsAnswer}
-use Rattle.reader.specs.Meaning.{corners-as}
-use Rattle.reader.specs.declared.Corners.{Corners}
-use Rattle.text.specs.Meaning.{samples-answer, read-as}
-use Rattle.text.specs.declared.reading.Read.{Read}
+use Rattle.text.specs.TextAnswers.{samples-answer}
 use Rattle.picker.proofs.pick.Kinds as pick-kinds
 use Rattle.picker.proofs.pick.Reads as pick-reads
 use Rattle.chains.proofs.chains.Kinds as chains-kinds
@@ -86,18 +83,18 @@ pub record Contracts : Type 1 where
       round-reads.Post κs a r s
       ≡ RoundPromise (now (a .0)) (now (a .1 .0)) (now (a .1 .1 .0)) (a .1 .1 .1 .0) (now (a .1 .1 .1 .1 .0)) (now (a .1 .1 .1 .1 .1 .0)) r
       (now (s .1 .1 .1 .1 .0)) (now (s .1 .1 .1 .1 .1 .0))
-  pub of-ring : (κs : Lfts 5) (a : Dens κs ring-kinds.ps) (r : Ringed) (s : AtExit (endedOf 5 ring-kinds.ps ring-kinds.r) κs) →
+  pub of-ring : (κs : Lfts 5) (a : Dens κs ring-kinds.ps) (r : Counted) (s : AtExit (endedOf 5 ring-kinds.ps ring-kinds.r) κs) →
       ring-reads.Post κs a r s
       ≡ Outcome (ring-answer (now (a .0)) (now (a .1 .0)) (now (a .1 .1 .0)) (now (a .1 .1 .1 .0)) (now (a .1 .1 .1 .1 .0))) r
       (now (a .1 .1 .0)) (now (s .1 .1 .0)) (now (a .1 .1 .1 .0)) (now (s .1 .1 .1 .0)) (now (a .1 .1 .1 .1 .0)) (now (s .1 .1 .1 .1 .0))
-  pub of-join : (κs : Lfts 7) (a : Dens κs join-kinds.ps) (r : Ringed) (s : AtExit (endedOf 7 join-kinds.ps join-kinds.r) κs) →
+  pub of-join : (κs : Lfts 7) (a : Dens κs join-kinds.ps) (r : Counted) (s : AtExit (endedOf 7 join-kinds.ps join-kinds.r) κs) →
       join-reads.Post κs a r s
       ≡ Outcome
       (join-answer (now (a .0)) (now (a .1 .0)) (now (a .1 .1 .0)) (now (a .1 .1 .1 .0)) (now (a .1 .1 .1 .1 .0)) (now (a .1 .1 .1 .1 .1 .0))
       (now (a .1 .1 .1 .1 .1 .1 .0))) r
       (now (a .1 .1 .1 .1 .0)) (now (s .1 .1 .1 .1 .0)) (now (a .1 .1 .1 .1 .1 .0)) (now (s .1 .1 .1 .1 .1 .0))
       (now (a .1 .1 .1 .1 .1 .1 .0)) (now (s .1 .1 .1 .1 .1 .1 .0))
-  pub of-turn-about : (κs : Lfts 4) (a : Dens κs turn-kinds.ps) (r : Turned) (s : AtExit (endedOf 4 turn-kinds.ps turn-kinds.r) κs) →
+  pub of-turn-about : (κs : Lfts 4) (a : Dens κs turn-kinds.ps) (r : Counted) (s : AtExit (endedOf 4 turn-kinds.ps turn-kinds.r) κs) →
       turn-reads.Post κs a r s
       ≡ TurnPromise (now (a .0)) (now (a .1 .0)) (now (a .1 .1 .0)) (now (a .1 .1 .1 .0)) r (now (s .1 .1 .0)) (now (s .1 .1 .1 .0))
   pub of-strongest : (κs : Lfts 2) (a : Dens κs strongest-kinds.ps) (r : StrongestSet) (s : AtExit (endedOf 2 strongest-kinds.ps strongest-kinds.r) κs) →
@@ -120,15 +117,15 @@ pub record Contracts : Type 1 where
       ≡ ((door-as r ≡ answer)
       × ((now (s .1 .1 .0) ≡ door-output-after (taken-east read) answer (now (a .1 .1 .0)))
       × (now (s .1 .1 .1 .0) ≡ door-output-after (taken-north read) answer (now (a .1 .1 .1 .0)))))
-  pub of-read-record : (κs : Lfts 3) (a : Dens κs record-kinds.ps) (r : Corners) (s : AtExit (endedOf 3 record-kinds.ps record-kinds.r) κs) →
+  pub of-read-record : (κs : Lfts 3) (a : Dens κs record-kinds.ps) (r : Counted) (s : AtExit (endedOf 3 record-kinds.ps record-kinds.r) κs) →
       let answer = record-answer (now (a .0)) (now (a .1 .0)) (now (a .1 .1 .0)) in
       record-reads.Post κs a r s
-      ≡ ((corners-as r ≡ counted answer)
+      ≡ ((counted-as r ≡ counted answer)
       × ((now (s .1 .0) ≡ output-after easts answer (now (a .1 .0))) × (now (s .1 .1 .0) ≡ output-after norths answer (now (a .1 .1 .0)))))
-  pub of-samples : (κs : Lfts 3) (a : Dens κs samples-kinds.ps) (r : Read) (s : AtExit (endedOf 3 samples-kinds.ps samples-kinds.r) κs) →
+  pub of-samples : (κs : Lfts 3) (a : Dens κs samples-kinds.ps) (r : Counted) (s : AtExit (endedOf 3 samples-kinds.ps samples-kinds.r) κs) →
       let answer = samples-answer (now (a .0)) (now (a .1 .0)) (now (a .1 .1 .0)) in
       samples-reads.Post κs a r s
-      ≡ ((read-as r ≡ counted answer)
+      ≡ ((counted-as r ≡ counted answer)
       × ((now (s .1 .0) ≡ output-after easts answer (now (a .1 .0))) × (now (s .1 .1 .0) ≡ output-after norths answer (now (a .1 .1 .0)))))
   pub of-print-ring : (κs : Lfts 3) (a : Dens κs print-ring-kinds.ps) (r : ℕ) (s : AtExit (endedOf 3 print-ring-kinds.ps print-ring-kinds.r) κs) →
       let text = printed (done (streams (now (a .0)) (now (a .1 .0)))) in

@@ -19,19 +19,17 @@ use Rattle.rules.specs.Ring.{ring}
 use Rattle.rules.specs.Use.{envelope, join, turn-about}
 use Rattle.rules.specs.Refusals.{ring-tests, not-envelope, too-many, scratch-short}
 use Rattle.rules.specs.Entries.{easts, norths, ring-short, join-answer}
-use Rattle.outline.specs.Chains.{ring-members}
-use Rattle.rings.specs.Rings.{envelope-ring}
-use Rattle.rings.specs.Joins.{join-rings}
-use Rattle.rings.specs.Turning.{turn-ring}
+use Rattle.laws_outline.specs.SameOutline.{ring-members}
+use Rattle.laws_rings.specs.Rings.{envelope-ring}
+use Rattle.laws_rings.specs.Joins.{join-rings}
+use Rattle.laws_rings.specs.Turning.{turn-ring}
 use Rattle.samples.specs.Samples.{streams-easts, streams-norths}
-use Rattle.envelope.specs.declared.turn.Turned.the-variants as turn
+use Rattle.samples.specs.declared.answers.Counted.the-variants as counts
 use Rattle.envelope.specs.declared.cover.Covered.the-variants as said
-use Rattle.closing.specs.Meaning.{ringed-as}
-use Rattle.closing.specs.declared.Ringed.{Ringed}
-use Rattle.closing.specs.declared.Ringed.the-variants as ringed
+use Rattle.samples.specs.CountedAnswers.{counted-as}
+use Rattle.samples.specs.declared.answers.Counted.{Counted}
 use Rattle.join.proofs.join.Kinds as kinds
 use Rattle.join.proofs.join.Reads as reads
-use Rattle.reader.specs.declared.Corners.the-variants as read
 use Rattle.demands.specs.Done.{Left, ring-left, left-even, left-ring, left-as-given}
 use Rattle.demands.specs.Ringed as rings
 use Rattle.demands.specs.Records as records
@@ -42,7 +40,7 @@ use Rattle.demands.specs.Covered as covers
 pub record Joining : Type 1 where
   pub lifetimes : Lfts 7
   pub given : Dens lifetimes kinds.ps
-  pub answer : Ringed
+  pub answer : Counted
   pub left : AtExit (endedOf 7 kinds.ps kinds.r) lifetimes
   pub promised : reads.Post lifetimes given answer left
 
@@ -85,7 +83,7 @@ pub record Joined-up (c : Joining) (n : ℕ) : Type 0 where
   pub ring2-given : envelope (streams (east2 c) (north2 c)) ≡ true
   pub left : Left (both c) n (east-after c) (north-after c)
 
-pub joining-done : (c : Joining) {n : ℕ} → c .answer ≡ ringed.Corners n → Joined-up c n
+pub joining-done : (c : Joining) {n : ℕ} → c .answer ≡ counts.Count n → Joined-up c n
 unfolding join-answer
 joining-done c {n} e =
     let m = length (east c) + length (east2 c) in
@@ -101,7 +99,7 @@ joining-done c {n} e =
     (both c)
     (east-before c)
     (north-before c)
-    (sym (ap ringed-as e) ∙ c .promised .says)
+    (sym (ap counted-as e) ∙ c .promised .says)
     (c .promised .east-after)
     (c .promised .north-after) in
     record {
@@ -116,13 +114,13 @@ joining-done c {n} e =
 
 -- a ring that comes of calls that are done, and all streams behind it: the ring of samples, a record that was read, two rings joined, or one turned about
 pub data Made : List Stream → List ℤ → List ℤ → Type 1 where
-  ringed-by : (c : rings.Ringing) {n : ℕ} → c .answer ≡ ringed.Corners n
+  ringed-by : (c : rings.Ringing) {n : ℕ} → c .answer ≡ counts.Count n
       → Made (rings.samples c) (take n (rings.east-after c)) (take n (rings.north-after c))
-  read-by : (c : records.Reading) {n : ℕ} → c .answer ≡ read.Read n
+  read-by : (c : records.Reading) {n : ℕ} → c .answer ≡ counts.Count n
       → Made (records.corners c) (take n (records.east-after c)) (take n (records.north-after c))
-  joined-by : {xs ys : List Stream} (c : Joining) {n : ℕ} → c .answer ≡ ringed.Corners n → Made xs (east c) (north c) → Made ys (east2 c) (north2 c)
+  joined-by : {xs ys : List Stream} (c : Joining) {n : ℕ} → c .answer ≡ counts.Count n → Made xs (east c) (north c) → Made ys (east2 c) (north2 c)
       → Made (xs ++ ys) (take n (east-after c)) (take n (north-after c))
-  turned-by : {xs : List Stream} (c : turns.Turning) {n : ℕ} → c .answer ≡ turn.Corners n → Made xs (turns.east c) (turns.north c)
+  turned-by : {xs : List Stream} (c : turns.Turning) {n : ℕ} → c .answer ≡ counts.Count n → Made xs (turns.east c) (turns.north c)
       → Made (map turned xs) (take n (turns.east-after c)) (take n (turns.north-after c))
 
 -- two lists that are the parts of a ring
@@ -160,7 +158,7 @@ turned-join xs ys {fs} {ms} a b =
 
 -- ---- a stream that a ring covers
 
-pub covered-changes-nothing : (k : covers.Call) → k .answer ≡ said.Yes → (c : Joining) {n : ℕ} → c .answer ≡ ringed.Corners n
+pub covered-changes-nothing : (k : covers.Call) → k .answer ≡ said.Yes → (c : Joining) {n : ℕ} → c .answer ≡ counts.Count n
     → streams (east c) (north c) ≡ covers.corners k → streams (east2 c) (north2 c) ≡ covers.asked k ∷ []
     → (n ≡ length (east c)) × (take n (east-after c) ≡ east c) × (take n (north-after c) ≡ north c)
 unfolding join

@@ -17,9 +17,9 @@ use Rattle.rules.specs.Use.{envelope}
 use Rattle.rules.specs.Record.{version, said-length}
 use Rattle.rules.specs.Refusals.{test, too-many, part-beyond}
 use Rattle.rules.specs.Entries.{ring-short, record-corners, record-answer}
-use Rattle.reader.specs.Meaning.{corners-as}
-use Rattle.reader.specs.declared.Corners.{Corners}
-use Rattle.reader.specs.declared.Corners.the-variants as said
+use Rattle.samples.specs.CountedAnswers.{counted-as}
+use Rattle.samples.specs.declared.answers.Counted.{Counted}
+use Rattle.samples.specs.declared.answers.Counted.the-variants as counts
 use Rattle.reader.proofs.read_record.Kinds as kinds
 use Rattle.reader.proofs.read_record.Reads as reads
 use Rattle.demands.specs.Done.{Left, ring-left}
@@ -28,7 +28,7 @@ use Rattle.demands.specs.Done.{Left, ring-left}
 pub record Reading : Type 1 where
   pub lifetimes : Lfts 3
   pub given : Dens lifetimes kinds.ps
-  pub answer : Corners
+  pub answer : Counted
   pub left : AtExit (endedOf 3 kinds.ps kinds.r) lifetimes
   pub promised : reads.Post lifetimes given answer left
 
@@ -56,7 +56,7 @@ pub record Read-up (c : Reading) (n : ℕ) : Type 0 where
   pub ring-read : envelope (corners c) ≡ true
   pub left : Left (corners c) n (east-after c) (north-after c)
 
-pub reading-done : (c : Reading) {n : ℕ} → c .answer ≡ said.Read n → Read-up c n
+pub reading-done : (c : Reading) {n : ℕ} → c .answer ≡ counts.Count n → Read-up c n
 unfolding record-answer
 reading-done c {n} e =
     let bs = bytes c in
@@ -73,7 +73,7 @@ reading-done c {n} e =
     r
     (east-before c)
     (north-before c)
-    (sym (ap corners-as e) ∙ c .promised .0)
+    (sym (ap counted-as e) ∙ c .promised .0)
     (c .promised .1 .0)
     (c .promised .1 .1) in
     record { ring-read = not-false _ (d .0 .1 .1 .1 .1 .1 .0); left = d .1 }

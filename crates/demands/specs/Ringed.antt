@@ -13,9 +13,9 @@ use borrow.Author.Tests.{eqb-true, not-false}
 use Rattle.rules.specs.Streams.{Stream, streams}
 use Rattle.rules.specs.Ring.{ring}
 use Rattle.rules.specs.Entries.{sample-tests, ring-short, ring-answer}
-use Rattle.closing.specs.Meaning.{ringed-as}
-use Rattle.closing.specs.declared.Ringed.{Ringed}
-use Rattle.closing.specs.declared.Ringed.the-variants as ringed
+use Rattle.samples.specs.CountedAnswers.{counted-as}
+use Rattle.samples.specs.declared.answers.Counted.{Counted}
+use Rattle.samples.specs.declared.answers.Counted.the-variants as counts
 use Rattle.ring.proofs.ring.Kinds as kinds
 use Rattle.ring.proofs.ring.Reads as reads
 use Rattle.demands.specs.Done.{Left, ring-left}
@@ -24,7 +24,7 @@ use Rattle.demands.specs.Done.{Left, ring-left}
 pub record Ringing : Type 1 where
   pub lifetimes : Lfts 5
   pub given : Dens lifetimes kinds.ps
-  pub answer : Ringed
+  pub answer : Counted
   pub left : AtExit (endedOf 5 kinds.ps kinds.r) lifetimes
   pub promised : reads.Post lifetimes given answer left
 
@@ -58,7 +58,7 @@ pub record Ringed-up (c : Ringing) (n : ℕ) : Type 0 where
   pub even : length (east c) ≡ length (north c)
   pub left : Left (ring (samples c)) n (east-after c) (north-after c)
 
-pub ringing-done : (c : Ringing) {n : ℕ} → c .answer ≡ ringed.Corners n → Ringed-up c n
+pub ringing-done : (c : Ringing) {n : ℕ} → c .answer ≡ counts.Count n → Ringed-up c n
 unfolding ring-answer
 ringing-done c {n} e =
     let r = ring (samples c) in
@@ -67,7 +67,7 @@ ringing-done c {n} e =
     r
     (east-before c)
     (north-before c)
-    (sym (ap ringed-as e) ∙ c .promised .says)
+    (sym (ap counted-as e) ∙ c .promised .says)
     (c .promised .east-after)
     (c .promised .north-after) in
     record { even = eqb-true (length (east c)) (length (north c)) (not-false _ (d .0 .0)); left = d .1 }

@@ -20,8 +20,8 @@ use Rattle.rules.specs.Use.{envelope, join, turn-about}
 use Rattle.rules.specs.Refusals.{Answer, done, Test, too-many, scratch-short, output-short, ring-tests, not-envelope, output-after, scratch-after}
 use Rattle.rules.specs.Entries.{Chains, kept-list, easts, norths, counted, ring-short, sample-tests, chains-answer, bridge-answer, round-answer, ring-answer, join-answer, turn-answer, strongest-answer, cover-answer}
 use Rattle.rules.specs.Soundings.{A-easts, A-norths, A-scratch, A-ring-easts, A-ring-norths, A, A-ring, A-round, tall, flat, three, soundings, slips}
-use Rattle.rings.specs.Rings.{envelope-ring}
-use Rattle.rounds.specs.Steps.{no-step-without-bridge}
+use Rattle.laws_rings.specs.Rings.{envelope-ring}
+use Rattle.laws_rounds.specs.Steps.{no-step-without-bridge}
 use Rattle.chains.specs.Promise as chains
 use Rattle.chains.specs.declared.ChainsAnswer.{ChainsAnswer}
 use Rattle.chains.specs.declared.ChainsAnswer.the-variants as chains-said
@@ -31,18 +31,17 @@ use Rattle.bridge.specs.declared.BridgeAnswer.the-variants as bridge-said
 use Rattle.round.specs.Promise as rounding
 use Rattle.round.specs.declared.RoundAnswer.{RoundAnswer}
 use Rattle.round.specs.declared.RoundAnswer.the-variants as round-said
-use Rattle.closing.specs.Meaning.{Outcome, ringed-injective}
-use Rattle.closing.specs.declared.Ringed.{Ringed}
-use Rattle.closing.specs.declared.Ringed.the-variants as ringed
-use Rattle.envelope.specs.Meaning.{TurnPromise, strongest-as, covered-as}
-use Rattle.envelope.specs.declared.turn.Turned.{Turned}
-use Rattle.envelope.specs.declared.turn.Turned.the-variants as turn
+use Rattle.closing.specs.RingOutcome.{Outcome}
+use Rattle.samples.specs.CountedAnswers.{counted-injective}
+use Rattle.samples.specs.declared.answers.Counted.{Counted}
+use Rattle.samples.specs.declared.answers.Counted.the-variants as counts
+use Rattle.envelope.specs.RingAnswers.{TurnPromise, strongest-as, covered-as}
 use Rattle.envelope.specs.declared.strongest.StrongestSet.{StrongestSet}
 use Rattle.envelope.specs.declared.strongest.StrongestSet.the-variants as strongest
 use Rattle.envelope.specs.declared.cover.Covered.{Covered}
 use Rattle.envelope.specs.declared.cover.Covered.the-variants as cover
 use Rattle.demands.specs.Done.{when-done, not-refused}
-use Rattle.demands.specs.Cases.{chains-done, bridge-found, bridge-refused, round-found, round-kept, turned-corners, strongest-greatest, covered-yes}
+use Rattle.demands.specs.Cases.{chains-done, bridge-found, bridge-refused, round-found, round-kept, strongest-greatest, covered-yes}
 
 -- ---- any outcome that a promise allows: what is lent, with room for the result and 16c + 64 words of scratch, what is answered and what is left
 
@@ -87,7 +86,7 @@ pub record Ring-of (answers : List ℤ → List ℤ → List ℕ → Answer (Lis
   pub east-room : room ≤ length east
   pub north-room : room ≤ length north
   pub scratch-room : words ≤ length scratch
-  pub answer : Ringed
+  pub answer : Counted
   pub east-left : List ℤ
   pub north-left : List ℤ
   pub scratch-left : List ℕ
@@ -99,7 +98,7 @@ pub record Turn-of (es ns : List ℤ) (room : ℕ) : Type 0 where
   pub north : List ℤ
   pub east-room : room ≤ length east
   pub north-room : room ≤ length north
-  pub answer : Turned
+  pub answer : Counted
   pub east-left : List ℤ
   pub north-left : List ℤ
   pub promised : TurnPromise es ns east north answer east-left north-left
@@ -149,12 +148,12 @@ pub record Entries-sound : Type 0 where
   pub P8 : (c : Round-of-A (3 ∷ 0 ∷ 1 ∷ 2 ∷ []) (pos 2) 2) →
       (c .answer ≡ round-said.Kept 2) × (c .output-left ≡ 3 ∷ 2 ∷ drop 2 (c .output)) × (c .scratch-left ≡ zeros (c .scratch))
   pub P9 : (c : Ring-of (join-answer tall-easts tall-norths flat-easts flat-norths) 3 128) →
-      (c .answer ≡ ringed.Corners 3)
+      (c .answer ≡ counts.Count 3)
       × (c .east-left ≡ pos 0 ∷ pos 2 ∷ pos 4 ∷ drop 3 (c .east))
       × (c .north-left ≡ pos 0 ∷ pos 5 ∷ pos 0 ∷ drop 3 (c .north))
       × (c .scratch-left ≡ zeros (c .scratch))
   pub P10 : (c : Turn-of three-easts three-norths 3) →
-      (c .answer ≡ turn.Corners 3)
+      (c .answer ≡ counts.Count 3)
       × (c .east-left ≡ negsuc 3 ∷ pos 0 ∷ negsuc 1 ∷ drop 3 (c .east))
       × (c .north-left ≡ pos 0 ∷ pos 0 ∷ negsuc 4 ∷ drop 3 (c .north))
   pub P11 : (c : Strongest-of A-ring-easts A-ring-norths (negsuc 0) (pos 1)) → c .answer ≡ strongest.Greatest (pos 3) 0
@@ -285,12 +284,12 @@ round-of {list} {a} c {said} e h =
 
 ring-of : {answers : List ℤ → List ℤ → List ℕ → Answer (List Stream)} {room words : ℕ} (c : Ring-of answers room words) {r : List Stream} →
     answers (c .east) (c .north) (c .scratch) ≡ done r →
-    (c .answer ≡ ringed.Corners (length r))
+    (c .answer ≡ counts.Count (length r))
     × (c .east-left ≡ written (easts r) (c .east))
     × (c .north-left ≡ written (norths r) (c .north))
     × (c .scratch-left ≡ zeros (c .scratch))
 ring-of c {r} e = (
-  ringed-injective (c .answer) (ringed.Corners (length r)) (c .promised .says ∙ ap counted e),
+  counted-injective (c .answer) (counts.Count (length r)) (c .promised .says ∙ ap counted e),
   c .promised .east-after ∙ ap (λ (t : Answer (List Stream)). output-after easts t (c .east)) e,
   c .promised .north-after ∙ ap (λ (t : Answer (List Stream)). output-after norths t (c .north)) e,
   c .promised .scratch-is ∙ ap (λ (t : Answer (List Stream)). scratch-after t (c .scratch)) e,
@@ -310,7 +309,7 @@ entries-sound = record {
   P9 = λ c. ring-of c (join-three (c .east) (c .north) (c .scratch) (c .east-room) (c .north-room) (c .scratch-room));
   P10 = λ c.
       let e = three-turned (c .east) (c .north) (c .east-room) (c .north-room) in (
-        turned-corners (c .answer) (c .promised .answer ∙ ap counted e),
+        counted-injective (c .answer) (counts.Count 3) (c .promised .answer ∙ ap counted e),
         c .promised .east-after ∙ ap (λ (t : Answer (List Stream)). output-after easts t (c .east)) e,
         c .promised .north-after ∙ ap (λ (t : Answer (List Stream)). output-after norths t (c .north)) e,
       );
@@ -320,7 +319,7 @@ entries-sound = record {
 
 -- the ring of A, off which P11 and P12 are read
 pub A-ring-written : (c : Ring-of (ring-answer A-easts A-norths) 5 176) →
-    (c .answer ≡ ringed.Corners 5)
+    (c .answer ≡ counts.Count 5)
     × (c .east-left ≡ pos 0 ∷ pos 2 ∷ pos 4 ∷ pos 4 ∷ pos 0 ∷ drop 5 (c .east))
     × (c .north-left ≡ pos 3 ∷ pos 5 ∷ pos 3 ∷ pos 0 ∷ pos 0 ∷ drop 5 (c .north))
     × (c .scratch-left ≡ zeros (c .scratch))

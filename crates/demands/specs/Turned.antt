@@ -16,10 +16,10 @@ use Rattle.rules.specs.Chain.{upper, lower}
 use Rattle.rules.specs.Use.{envelope, turn-about}
 use Rattle.rules.specs.Refusals.{ring-tests, not-envelope}
 use Rattle.rules.specs.Entries.{ring-short, turn-answer}
-use Rattle.rings.specs.Turning.{turn-twice, turned-upper, turned-lower}
-use Rattle.envelope.specs.Meaning.{turned-as}
-use Rattle.envelope.specs.declared.turn.Turned.{Turned}
-use Rattle.envelope.specs.declared.turn.Turned.the-variants as turn
+use Rattle.laws_rings.specs.Turning.{turn-twice, turned-upper, turned-lower}
+use Rattle.samples.specs.CountedAnswers.{counted-as}
+use Rattle.samples.specs.declared.answers.Counted.{Counted}
+use Rattle.samples.specs.declared.answers.Counted.the-variants as counts
 use Rattle.envelope.proofs.turn.turn_about.Kinds as turn-kinds
 use Rattle.envelope.proofs.turn.turn_about.Reads as turn-reads
 use Rattle.demands.specs.Done.{Left, ring-left, left-ring, left-as-given}
@@ -28,7 +28,7 @@ use Rattle.demands.specs.Done.{Left, ring-left, left-ring, left-as-given
 pub record Turning : Type 1 where
   pub lifetimes : Lfts 4
   pub given : Dens lifetimes turn-kinds.ps
-  pub answer : Turned
+  pub answer : Counted
   pub left : AtExit (endedOf 4 turn-kinds.ps turn-kinds.r) lifetimes
   pub promised : turn-reads.Post lifetimes given answer left
 
@@ -61,7 +61,7 @@ pub record Turned-about (c : Turning) (n : ℕ) : Type 0 where
   pub ring-given : envelope (corners c) ≡ true
   pub left : Left (turn-about (corners c)) n (east-after c) (north-after c)
 
-pub turning-done : (c : Turning) {n : ℕ} → c .answer ≡ turn.Corners n → Turned-about c n
+pub turning-done : (c : Turning) {n : ℕ} → c .answer ≡ counts.Count n → Turned-about c n
 unfolding turn-answer
 turning-done c {n} e =
     let r = turn-about (corners c) in
@@ -70,13 +70,13 @@ turning-done c {n} e =
     r
     (east-before c)
     (north-before c)
-    (sym (ap turned-as e) ∙ c .promised .answer)
+    (sym (ap counted-as e) ∙ c .promised .answer)
     (c .promised .east-after)
     (c .promised .north-after) in
     record { even = eqb-true (length (east c)) (length (north c)) (not-false _ (d .0 .0)); ring-given = not-false _ (d .0 .1 .1 .1 .0); left = d .1 }
 
 -- a ring turned about, and the result turned about, is the ring
-pub turned-twice : (c d : Turning) {n m : ℕ} → c .answer ≡ turn.Corners n → d .answer ≡ turn.Corners m →
+pub turned-twice : (c d : Turning) {n m : ℕ} → c .answer ≡ counts.Count n → d .answer ≡ counts.Count m →
     east d ≡ take n (east-after c) → north d ≡ take n (north-after c) →
     (m ≡ length (east c)) × (take m (east-after d) ≡ east c) × (take m (north-after d) ≡ north c)
 turned-twice c d {n} {m} e f he hn =
@@ -89,7 +89,7 @@ turned-twice c d {n} {m} e f he hn =
     first = turning-done c e
 
 -- and what it leaves has for its upper chain the lower chain of what it was given, both signs changed, in reverse; and the other way round
-pub turned-chains : (c : Turning) {n : ℕ} → c .answer ≡ turn.Corners n → let r = streams (take n (east-after c)) (take n (north-after c)) in
+pub turned-chains : (c : Turning) {n : ℕ} → c .answer ≡ counts.Count n → let r = streams (take n (east-after c)) (take n (north-after c)) in
     (upper r ≡ reverse (map turned (lower (corners c)))) × (lower r ≡ reverse (map turned (upper (corners c))))
 turned-chains c e =
     let l = left-ring (turning-done c e .left) in

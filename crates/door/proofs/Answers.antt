@@ -15,7 +15,7 @@ use types.Run.{OneOf}
 use Rattle.rules.specs.Door.{PartIs, whole, no, no-float, part, Readings, and-then, readings}
 use Rattle.door.specs.declared.ReadingsAnswer.{ReadingsAnswer}
 use Rattle.door.specs.declared.ReadingsAnswer.the-variants.{Done, Refused, RefusedFloat}
-use Rattle.door.specs.Meaning.{refusal-of, first-refusal, whole-of, wholes, readings-as}
+use Rattle.door.specs.DoorAnswers.{refusal-of, first-refusal, whole-of, wholes, readings-as}
 use Rattle.door.proofs.ReadingsAnswer.{the-type}
 
 -- ---- a refusal, as an `else` arm knows it: the answer's variant is the second or the third

@@ -14,7 +14,7 @@ use Rattle.rules.specs.Door.{Readings, taken, bad, bad-float, readings}
 use Rattle.rules.specs.Entries.{door-done, door-of, door-answer, taken-east, taken-north, door-output-after}
 use Rattle.door.specs.declared.ReadingsAnswer.{ReadingsAnswer}
 use Rattle.door.specs.declared.ReadingsAnswer.the-variants.{Done, Refused, RefusedFloat}
-use Rattle.door.specs.Meaning.{door-as, wholes, readings-as}
+use Rattle.door.specs.DoorAnswers.{door-as, wholes, readings-as}
 use Rattle.door.proofs.Answers.{IsRefusal, not-done}
 use Rattle.door.proofs.Written.{length-wholes}
 

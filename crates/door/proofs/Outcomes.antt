@@ -15,7 +15,7 @@ use Rattle.door.specs.declared.PartAnswer.{PartAnswer}
 use Rattle.door.specs.declared.PartAnswer.the-variants.{Whole, NotANumber, TooLarge, Fraction}
 use Rattle.door.specs.declared.ReadingsAnswer.{ReadingsAnswer}
 use Rattle.door.specs.declared.ReadingsAnswer.the-variants.{Done, Refused, RefusedFloat}
-use Rattle.door.specs.Meaning.{part-as, door-as}
+use Rattle.door.specs.DoorAnswers.{part-as, door-as}
 use Rattle.door.proofs.part.Kinds as part-kinds
 use Rattle.door.proofs.part.Reads as part-reads
 use Rattle.door.proofs.take_readings.Kinds as take-kinds

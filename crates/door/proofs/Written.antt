@@ -12,7 +12,7 @@ use lib.Seq.{take-all}
 use lib.Ieee.{Float, nan}
 use Rattle.rules.specs.Lists.{written}
 use Rattle.rules.specs.Door.{part}
-use Rattle.door.specs.Meaning.{whole-of, wholes}
+use Rattle.door.specs.DoorAnswers.{whole-of, wholes}
 
 set-front : {A : Type 0} (i : ℕ) (xs old : List A) (d : A) → i < length xs → i < length old →
     set (take i xs ++ drop i old) i (getD xs i d) ≡ take (suc i) xs ++ drop (suc i) old

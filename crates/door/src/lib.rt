@@ -7,7 +7,7 @@ ghost use lib.Ieee.{nan};
 ghost use Rattle.rules.specs.Lists.{written};
 ghost use Rattle.rules.specs.Door.{part, readings};
 ghost use Rattle.rules.specs.Entries.{door-answer, door-output-after, taken-east, taken-north};
-ghost use Rattle.door.specs.Meaning.{part-as, door-as, refusal-of, whole-of, first-refusal, wholes, readings-as};
+ghost use Rattle.door.specs.DoorAnswers.{part-as, door-as, refusal-of, whole-of, first-refusal, wholes, readings-as};
 
 // each part lies from -LIMIT to LIMIT
 const LIMIT: f64 = 1000000.0;

@@ -3,7 +3,6 @@
 use mathlib.Core.Path.{_≡_, refl, sym, _∙_}
 use mathlib.Core.Bool.{Bool, true, false}
 use mathlib.Mathlib.Logic.Function.Defs.{LeftInverse·injective}
-use Prim.Native.Nat.{ℕ}
 use contract.Lifetimes.{Lfts}
 use denote.Ref.{now}
 use denote.Triple.Clauses.{AtExit}
@@ -14,9 +13,9 @@ use Rattle.envelope.specs.declared.strongest.StrongestSet.{StrongestSet}
 use Rattle.envelope.specs.declared.strongest.StrongestSet.the-variants as strongest
 use Rattle.envelope.specs.declared.cover.Covered.{Covered}
 use Rattle.envelope.specs.declared.cover.Covered.the-variants as cover
-use Rattle.envelope.specs.declared.turn.Turned.{Turned}
-use Rattle.envelope.specs.declared.turn.Turned.the-variants as turn
-use Rattle.envelope.specs.Meaning.{strongest-as, covered-as, turned-as}
+use Rattle.samples.specs.declared.answers.Counted.{Counted}
+use Rattle.samples.specs.CountedAnswers.{counted-injective}
+use Rattle.envelope.specs.RingAnswers.{strongest-as, covered-as}
 use Rattle.envelope.proofs.strongest.strongest.Kinds as strongest-kinds
 use Rattle.envelope.proofs.strongest.strongest.Reads as strongest-reads
 use Rattle.envelope.proofs.cover.cover.Kinds as cover-kinds
@@ -35,10 +34,6 @@ covered-from (done true) = cover.Yes
 covered-from (done false) = cover.No
 covered-from (refused number place) = cover.Refused number place
 
-turned-from : Answer ℕ → Turned
-turned-from (done count) = turn.Corners count
-turned-from (refused number place) = turn.Refused number place
-
 strongest-back : (s : StrongestSet) → strongest-from (strongest-as s) ≡ s
 unfolding strongest-from
 strongest-back (strongest.Greatest set place) = refl
@@ -49,11 +44,6 @@ unfolding covered-from
 covered-back cover.Yes = refl
 covered-back cover.No = refl
 covered-back (cover.Refused number place) = refl
-
-turned-back : (t : Turned) → turned-from (turned-as t) ≡ t
-unfolding turned-from
-turned-back (turn.Corners count) = refl
-turned-back (turn.Refused number place) = refl
 
 -- ---- the promises
 
@@ -67,11 +57,11 @@ pub cover-one : (κs : Lfts 2) (a : Dens κs cover-kinds.ps) (r r' : Covered)
     cover-reads.Post κs a r s → cover-reads.Post κs a r' s' → r ≡ r'
 cover-one κs a r r' s s' p q = LeftInverse·injective covered-from covered-as covered-back r r' (p ∙ sym q)
 
-pub turn-about-one : (κs : Lfts 4) (a : Dens κs turn-kinds.ps) (r r' : Turned)
+pub turn-about-one : (κs : Lfts 4) (a : Dens κs turn-kinds.ps) (r r' : Counted)
     (s s' : AtExit (endedOf 4 turn-kinds.ps turn-kinds.r) κs) →
     turn-reads.Post κs a r s → turn-reads.Post κs a r' s' →
     (r ≡ r') × ((now (s .1 .1 .0) ≡ now (s' .1 .1 .0)) × (now (s .1 .1 .1 .0) ≡ now (s' .1 .1 .1 .0)))
 turn-about-one κs a r r' s s' p q = (
-  LeftInverse·injective turned-from turned-as turned-back r r' (p .answer ∙ sym (q .answer)),
+  counted-injective r r' (p .answer ∙ sym (q .answer)),
   (p .east-after ∙ sym (q .east-after), p .north-after ∙ sym (q .north-after)),
 )

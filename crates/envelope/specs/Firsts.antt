@@ -14,7 +14,8 @@ use Rattle.whole.specs.Laws.{≤ℤ-of-≡, ≤ℤ-split, <ℤ→≤ℤ, ≤ℤ
 use Rattle.rules.specs.Streams.{Stream, stream, sample}
 use Rattle.rules.specs.Chain.{leftmost}
 use Rattle.rules.specs.Use.{set-on}
-use Rattle.outline.specs.Lists.{in-place, two-keys-yes, two-keys-no, yes-first-key, yes-second-key, not-both, is-no}
+use Rattle.laws_outline.specs.ListLaws.{in-place, not-both, is-no}
+use Rattle.laws_outline.specs.TwoKeys.{two-keys-yes, two-keys-no, yes-first-key, yes-second-key}
 
 -- a test of what beats what: no two beat each other, and what beats one of two beats the other, or that one beats it
 pub record Orders (beats : Stream → Stream → Bool) : Type 0 where

@@ -1,4 +1,4 @@
-pub mod Meaning
+pub mod RingAnswers
 pub mod Tests
 pub mod Walks
 pub mod Firsts

@@ -10,8 +10,8 @@ use Rattle.whole.specs.Laws.{test-lt, test-nlt}
 use Rattle.rules.specs.Streams.{Stream, stream, sample}
 use Rattle.rules.specs.Use.{set-on, strongest, strongest-place}
 use Rattle.rules.specs.Entries.{Strongest, strongest-of}
-use Rattle.rings.specs.Strongest.{strongest-only, strongest-place-only}
-use Rattle.outline.specs.Lists.{at-place-in}
+use Rattle.laws_rings.specs.Strongest.{strongest-only, strongest-place-only}
+use Rattle.laws_outline.specs.ListLaws.{at-place-in}
 use Rattle.envelope.specs.Firsts.{First, first-unbeaten, stronger}
 
 abbrev pub greatest : ℤ → ℕ → Strongest

@@ -17,14 +17,17 @@ use Rattle.rules.specs.Ring.{ring}
 use Rattle.rules.specs.Use.{envelope, turn-about}
 use Rattle.rules.specs.Refusals.{Answer, refused, done, output-after}
 use Rattle.rules.specs.Entries.{easts, norths, counted, turn-answer}
-use Rattle.outline.specs.Lists.{at-place-in, two-keys-no, is-first-place, equal-same, no-same}
-use Rattle.rings.specs.Rings.{envelope-ring}
-use Rattle.rings.specs.Cycle.{Entered, enter, from-place, turn-from}
-use Rattle.rings.specs.Lines.{no-samples}
+use Rattle.laws_outline.specs.ListLaws.{at-place-in, is-first-place}
+use Rattle.laws_outline.specs.TwoKeys.{two-keys-no}
+use Rattle.laws_outline.specs.SamePosition.{equal-same, no-same}
+use Rattle.laws_rings.specs.Rings.{envelope-ring}
+use Rattle.laws_rings.specs.Cycle.{Entered, enter, from-place, turn-from}
+use Rattle.laws_rings.specs.Lines.{no-samples}
 use Rattle.samples.specs.Positions.{Sampled}
 use Rattle.samples.specs.Samples.{streams-length, streams-easts, streams-norths}
-use Rattle.envelope.specs.declared.turn.Turned.{Turned}
-use Rattle.envelope.specs.Meaning.{turned-as, TurnPromise}
+use Rattle.samples.specs.declared.answers.Counted.{Counted}
+use Rattle.samples.specs.CountedAnswers.{counted-as}
+use Rattle.envelope.specs.RingAnswers.{TurnPromise}
 use Rattle.envelope.specs.Firsts.{First, first-apart, first-unbeaten, nearer-entry, entry-orders}
 use Rattle.envelope.specs.Writes.{map-drop, map-take}
 
@@ -135,7 +138,7 @@ turned-length (x ∷ xs) e = go (enter (x ∷ xs) (List·Memᴰ·head refl))
 
 module _ (es ns oe on : List ℤ) where
   -- a refusal alters nothing
-  pub turn-refused : {r : Turned} {number place : ℕ} → turned-as r ≡ refused number place → turn-answer es ns oe on ≡ refused number place →
+  pub turn-refused : {r : Counted} {number place : ℕ} → counted-as r ≡ refused number place → turn-answer es ns oe on ≡ refused number place →
       TurnPromise es ns oe on r oe on
   turn-refused h e =
       record {
@@ -145,8 +148,8 @@ module _ (es ns oe on : List ℤ) where
       }
 
   -- from the place of entry on all corners are written
-  pub turn-done : {r : Turned} {oe' on' : List ℤ} {k : ℕ} → Sampled es ns → envelope (streams es ns) ≡ true → Entry (streams es ns) k →
-      turned-as r ≡ done (length es) → oe' ≡ written (turned-from k es) oe → on' ≡ written (turned-from k ns) on →
+  pub turn-done : {r : Counted} {oe' on' : List ℤ} {k : ℕ} → Sampled es ns → envelope (streams es ns) ≡ true → Entry (streams es ns) k →
+      counted-as r ≡ done (length es) → oe' ≡ written (turned-from k es) oe → on' ≡ written (turned-from k ns) on →
       turn-answer es ns oe on ≡ done (turn-about (streams es ns)) → TurnPromise es ns oe on r oe' on'
   turn-done p v t h he hn e =
       record {

@@ -7,12 +7,12 @@ ghost use lib.ListN.{length};
 ghost use Rattle.rules.specs.Streams.{streams};
 ghost use Rattle.rules.specs.Entries.{cover-answer};
 ghost use Rattle.samples.specs.Positions.{Near, Sampled};
-ghost use Rattle.ringside.specs.Meaning.{stream-of};
-ghost use Rattle.envelope.specs.Meaning.{covered-as};
+ghost use Rattle.samples.specs.HeldStream.{stream-of};
+ghost use Rattle.envelope.specs.RingAnswers.{covered-as};
 ghost use Rattle.envelope.specs.Walks.{inside-from};
-use ringside::Stream;
-use ringside::at;
-use ringside::strictly_right;
+use samples::streams::Stream;
+use samples::streams::at;
+use samples::streams::strictly_right;
 use samples::tests::Tested;
 
 // Yes or no, or a refusal's number and place.

@@ -9,12 +9,12 @@ ghost use lib.ListN.{length};
 ghost use Rattle.rules.specs.Streams.{streams, eqZ};
 ghost use Rattle.rules.specs.Entries.{strongest-answer};
 ghost use Rattle.samples.specs.Positions.{Near, Sampled};
-ghost use Rattle.ringside.specs.Meaning.{stream-of};
-ghost use Rattle.envelope.specs.Meaning.{strongest-as};
+ghost use Rattle.samples.specs.HeldStream.{stream-of};
+ghost use Rattle.envelope.specs.RingAnswers.{strongest-as};
 ghost use Rattle.envelope.specs.Firsts.{First, stronger};
-use ringside::Stream;
-use ringside::at;
-use ringside::set_on;
+use samples::streams::Stream;
+use samples::streams::at;
+use samples::streams::set_on;
 use samples::tests::Tested;
 
 // The greatest set and the first place that has it, or a refusal's number and place.

@@ -11,17 +11,12 @@ ghost use lib.ListN.{length};
 ghost use Rattle.rules.specs.Lists.{written};
 ghost use Rattle.rules.specs.Streams.{streams};
 ghost use Rattle.rules.specs.Use.{envelope};
-ghost use Rattle.envelope.specs.Meaning.{TurnPromise};
+ghost use Rattle.envelope.specs.RingAnswers.{TurnPromise};
 ghost use Rattle.envelope.specs.Turns.{Entry, AllNear, turned-from};
-use ringside::at;
-use ringside::leftmost;
+use samples::answers::Counted;
+use samples::streams::at;
+use samples::streams::leftmost;
 use samples::tests::Tested;
-
-// How many corners were written, or a refusal's number and place.
-pub enum Turned {
-    Corners(usize),
-    Refused { number: u32, place: usize },
-}
 
 // The first place of the corner with the greatest east and, among those, the least north.
 fn entry(east: &[i32], north: &[i32]) -> usize
@@ -67,24 +62,24 @@ pub fn turn_about(
     north: &[i32],
     out_east: &mut [i32],
     out_north: &mut [i32],
-) -> Turned
+) -> Counted
     ensures { λ r. ⌜ TurnPromise (now (east .entry)) (now (north .entry)) (now («out_east» .entry)) (now («out_north» .entry)) r
         (now («out_east» .exit)) (now («out_north» .exit)) ⌝ }
 {
     match of_ring(east, north) {
         Tested::Passed => {}
         Tested::Refused { number, place } => {
-            return Turned::Refused { number, place };
+            return Counted::Refused { number, place };
         }
     }
     if out_east.len() < east.len() {
-        return Turned::Refused {
+        return Counted::Refused {
             number: 5,
             place: 0,
         };
     }
     if out_north.len() < east.len() {
-        return Turned::Refused {
+        return Counted::Refused {
             number: 5,
             place: 0,
         };
@@ -92,5 +87,5 @@ pub fn turn_about(
     let start = entry(east, north);
     negate_from(east, start, out_east);
     negate_from(north, start, out_north);
-    Turned::Corners(east.len())
+    Counted::Count(east.len())
 }

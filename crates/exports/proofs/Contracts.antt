@@ -20,7 +20,7 @@ use Rattle.exports.specs.declared.picks.PickedC.{PickedC}
 use Rattle.exports.specs.declared.rounds.RoundSaid.{RoundSaid}
 use Rattle.exports.specs.declared.bridges.Bridged.{Bridged}
 use Rattle.exports.specs.declared.chained.ChainsC.{ChainsC}
-use Rattle.exports.specs.declared.rings.Counted.{Counted}
+use Rattle.exports.specs.declared.counts.CountedC.{CountedC}
 use Rattle.exports.specs.declared.hands.HandMade.{HandMade}
 use Rattle.exports.specs.declared.hands.HandStepped.{HandStepped}
 use Rattle.exports.specs.declared.rings.StrongestC.{StrongestC}
@@ -76,7 +76,7 @@ pub record Contracts : Type 1 where
       × ((now (s .1 .1 .0) ≡ output-after uppers answer (now (a .1 .1 .0)))
       × ((now (s .1 .1 .1 .0) ≡ output-after lowers answer (now (a .1 .1 .1 .0)))
       × (now (s .1 .1 .1 .1 .0) ≡ scratch-after answer (now (a .1 .1 .1 .1 .0))))))
-  pub of-ring : (κs : Lfts 5) (a : Dens κs ring-kinds.ps) (r : Counted) (s : AtExit (endedOf 5 ring-kinds.ps ring-kinds.r) κs) →
+  pub of-ring : (κs : Lfts 5) (a : Dens κs ring-kinds.ps) (r : CountedC) (s : AtExit (endedOf 5 ring-kinds.ps ring-kinds.r) κs) →
       let answer = ring-answer (now (a .0)) (now (a .1 .0)) (now (a .1 .1 .0)) (now (a .1 .1 .1 .0)) (now (a .1 .1 .1 .1 .0)) in
       ring-reads.Post κs a r s
       ≡ ((r ≡ counted-face answer)
@@ -91,7 +91,7 @@ pub record Contracts : Type 1 where
       strongest-reads.Post κs a r s ≡ (r ≡ strongest-face (strongest-answer (now (a .0)) (now (a .1 .0)) (a .1 .1 .0) (a .1 .1 .1 .0)))
   pub of-cover : (κs : Lfts 2) (a : Dens κs cover-kinds.ps) (r : CoverTold) (s : AtExit (endedOf 2 cover-kinds.ps cover-kinds.r) κs) →
       cover-reads.Post κs a r s ≡ (r ≡ cover-face (cover-answer (now (a .0)) (now (a .1 .0)) (a .1 .1 .0) (a .1 .1 .1 .0)))
-  pub of-join : (κs : Lfts 7) (a : Dens κs join-kinds.ps) (r : Counted) (s : AtExit (endedOf 7 join-kinds.ps join-kinds.r) κs) →
+  pub of-join : (κs : Lfts 7) (a : Dens κs join-kinds.ps) (r : CountedC) (s : AtExit (endedOf 7 join-kinds.ps join-kinds.r) κs) →
       let answer = join-answer (now (a .0)) (now (a .1 .0)) (now (a .1 .1 .0)) (now (a .1 .1 .1 .0)) (now (a .1 .1 .1 .1 .0))
       (now (a .1 .1 .1 .1 .1 .0)) (now (a .1 .1 .1 .1 .1 .1 .0)) in
       join-reads.Post κs a r s
@@ -99,7 +99,7 @@ pub record Contracts : Type 1 where
       × ((now (s .1 .1 .1 .1 .0) ≡ output-after parts-east answer (now (a .1 .1 .1 .1 .0)))
       × ((now (s .1 .1 .1 .1 .1 .0) ≡ output-after parts-north answer (now (a .1 .1 .1 .1 .1 .0)))
       × (now (s .1 .1 .1 .1 .1 .1 .0) ≡ scratch-after answer (now (a .1 .1 .1 .1 .1 .1 .0))))))
-  pub of-turn-about : (κs : Lfts 4) (a : Dens κs turn-about-kinds.ps) (r : Counted) (s : AtExit (endedOf 4 turn-about-kinds.ps turn-about-kinds.r) κs) →
+  pub of-turn-about : (κs : Lfts 4) (a : Dens κs turn-about-kinds.ps) (r : CountedC) (s : AtExit (endedOf 4 turn-about-kinds.ps turn-about-kinds.r) κs) →
       let answer = turn-answer (now (a .0)) (now (a .1 .0)) (now (a .1 .1 .0)) (now (a .1 .1 .1 .0)) in
       turn-about-reads.Post κs a r s
       ≡ ((r ≡ counted-face answer)
@@ -114,7 +114,7 @@ pub record Contracts : Type 1 where
       ≡ ((r ≡ readings-face answer)
       × ((now (s .1 .1 .0) ≡ door-output-after (taken-east read) answer (now (a .1 .1 .0)))
       × (now (s .1 .1 .1 .0) ≡ door-output-after (taken-north read) answer (now (a .1 .1 .1 .0)))))
-  pub of-record : (κs : Lfts 3) (a : Dens κs record-kinds.ps) (r : Counted) (s : AtExit (endedOf 3 record-kinds.ps record-kinds.r) κs) →
+  pub of-record : (κs : Lfts 3) (a : Dens κs record-kinds.ps) (r : CountedC) (s : AtExit (endedOf 3 record-kinds.ps record-kinds.r) κs) →
       let answer = record-answer (now (a .0)) (now (a .1 .0)) (now (a .1 .1 .0)) in
       record-reads.Post κs a r s
       ≡ ((r ≡ counted-face answer)

@@ -10,7 +10,7 @@ use Rattle.exports.specs.declared.picks.PickedC.{PickedC}
 use Rattle.exports.specs.declared.rounds.RoundSaid.{RoundSaid}
 use Rattle.exports.specs.declared.bridges.Bridged.{Bridged}
 use Rattle.exports.specs.declared.chained.ChainsC.{ChainsC}
-use Rattle.exports.specs.declared.rings.Counted.{Counted}
+use Rattle.exports.specs.declared.counts.CountedC.{CountedC}
 use Rattle.exports.specs.declared.hands.HandMade.{HandMade}
 use Rattle.exports.specs.declared.hands.HandStepped.{HandStepped}
 use Rattle.exports.specs.declared.rings.StrongestC.{StrongestC}
@@ -64,7 +64,7 @@ pub chains-one : (κs : Lfts 5) (a : Dens κs chains-kinds.ps) (r r' : ChainsC) 
     (r ≡ r') × (now (s .1 .1 .0) ≡ now (s' .1 .1 .0)) × (now (s .1 .1 .1 .0) ≡ now (s' .1 .1 .1 .0)) × (now (s .1 .1 .1 .1 .0) ≡ now (s' .1 .1 .1 .1 .0))
 chains-one κs a r r' s s' p q = (p .0 ∙ sym (q .0), p .1 .0 ∙ sym (q .1 .0), p .1 .1 .0 ∙ sym (q .1 .1 .0), p .1 .1 .1 ∙ sym (q .1 .1 .1))
 
-pub ring-one : (κs : Lfts 5) (a : Dens κs ring-kinds.ps) (r r' : Counted) (s s' : AtExit (endedOf 5 ring-kinds.ps ring-kinds.r) κs) →
+pub ring-one : (κs : Lfts 5) (a : Dens κs ring-kinds.ps) (r r' : CountedC) (s s' : AtExit (endedOf 5 ring-kinds.ps ring-kinds.r) κs) →
     ring-reads.Post κs a r s → ring-reads.Post κs a r' s' →
     (r ≡ r') × (now (s .1 .1 .0) ≡ now (s' .1 .1 .0)) × (now (s .1 .1 .1 .0) ≡ now (s' .1 .1 .1 .0)) × (now (s .1 .1 .1 .1 .0) ≡ now (s' .1 .1 .1 .1 .0))
 ring-one κs a r r' s s' p q = (p .0 ∙ sym (q .0), p .1 .0 ∙ sym (q .1 .0), p .1 .1 .0 ∙ sym (q .1 .1 .0), p .1 .1 .1 ∙ sym (q .1 .1 .1))
@@ -85,7 +85,7 @@ pub cover-one : (κs : Lfts 2) (a : Dens κs cover-kinds.ps) (r r' : CoverTold) 
     cover-reads.Post κs a r s → cover-reads.Post κs a r' s' → r ≡ r'
 cover-one κs a r r' s s' p q = p ∙ sym q
 
-pub join-one : (κs : Lfts 7) (a : Dens κs join-kinds.ps) (r r' : Counted) (s s' : AtExit (endedOf 7 join-kinds.ps join-kinds.r) κs) →
+pub join-one : (κs : Lfts 7) (a : Dens κs join-kinds.ps) (r r' : CountedC) (s s' : AtExit (endedOf 7 join-kinds.ps join-kinds.r) κs) →
     join-reads.Post κs a r s → join-reads.Post κs a r' s' →
     (r ≡ r')
     × (now (s .1 .1 .1 .1 .0) ≡ now (s' .1 .1 .1 .1 .0))
@@ -93,7 +93,7 @@ pub join-one : (κs : Lfts 7) (a : Dens κs join-kinds.ps) (r r' : Counted) (s s
     × (now (s .1 .1 .1 .1 .1 .1 .0) ≡ now (s' .1 .1 .1 .1 .1 .1 .0))
 join-one κs a r r' s s' p q = (p .0 ∙ sym (q .0), p .1 .0 ∙ sym (q .1 .0), p .1 .1 .0 ∙ sym (q .1 .1 .0), p .1 .1 .1 ∙ sym (q .1 .1 .1))
 
-pub turn-about-one : (κs : Lfts 4) (a : Dens κs turn-about-kinds.ps) (r r' : Counted) (s s' : AtExit (endedOf 4 turn-about-kinds.ps turn-about-kinds.r) κs) →
+pub turn-about-one : (κs : Lfts 4) (a : Dens κs turn-about-kinds.ps) (r r' : CountedC) (s s' : AtExit (endedOf 4 turn-about-kinds.ps turn-about-kinds.r) κs) →
     turn-about-reads.Post κs a r s → turn-about-reads.Post κs a r' s' →
     (r ≡ r') × (now (s .1 .1 .0) ≡ now (s' .1 .1 .0)) × (now (s .1 .1 .1 .0) ≡ now (s' .1 .1 .1 .0))
 turn-about-one κs a r r' s s' p q = (p .0 ∙ sym (q .0), p .1 .0 ∙ sym (q .1 .0), p .1 .1 ∙ sym (q .1 .1))
@@ -107,6 +107,6 @@ pub readings-one : (κs : Lfts 4) (a : Dens κs readings-kinds.ps) (r r' : Readi
     (r ≡ r') × (now (s .1 .1 .0) ≡ now (s' .1 .1 .0)) × (now (s .1 .1 .1 .0) ≡ now (s' .1 .1 .1 .0))
 readings-one κs a r r' s s' p q = (p .0 ∙ sym (q .0), p .1 .0 ∙ sym (q .1 .0), p .1 .1 ∙ sym (q .1 .1))
 
-pub record-one : (κs : Lfts 3) (a : Dens κs record-kinds.ps) (r r' : Counted) (s s' : AtExit (endedOf 3 record-kinds.ps record-kinds.r) κs) →
+pub record-one : (κs : Lfts 3) (a : Dens κs record-kinds.ps) (r r' : CountedC) (s s' : AtExit (endedOf 3 record-kinds.ps record-kinds.r) κs) →
     record-reads.Post κs a r s → record-reads.Post κs a r' s' → (r ≡ r') × (now (s .1 .0) ≡ now (s' .1 .0)) × (now (s .1 .1 .0) ≡ now (s' .1 .1 .0))
 record-one κs a r r' s s' p q = (p .0 ∙ sym (q .0), p .1 .0 ∙ sym (q .1 .0), p .1 .1 ∙ sym (q .1 .1))

@@ -9,11 +9,12 @@ use lib.ListN.{length}
 use Rattle.rules.specs.Streams.{Stream}
 use Rattle.rules.specs.Refusals.{Answer, refused, done}
 use Rattle.rules.specs.Entries.{Strongest, easts, norths, counted}
-use Rattle.closing.specs.Meaning.{ringed-as, Outcome}
-use Rattle.closing.specs.declared.Ringed.{Ringed}
+use Rattle.samples.specs.CountedAnswers.{counted-as}
+use Rattle.samples.specs.declared.answers.Counted.{Counted}
+use Rattle.closing.specs.RingOutcome.{Outcome}
 use Rattle.exports.specs.declared.rings.StrongestC.{StrongestC}
 use Rattle.exports.specs.declared.rings.CoverTold.{CoverTold}
-use Rattle.exports.specs.declared.rings.Counted.{Counted}
+use Rattle.exports.specs.declared.counts.CountedC.{CountedC}
 
 abbrev pub strongest-face : Answer Strongest → StrongestC
 strongest-face (done s) = record { number = 0; place = 0; set = s .set; at = s .place }
@@ -25,12 +26,12 @@ cover-face (done false) = record { number = 0; place = 0; covered = 0 }
 cover-face (refused number place) = record { number = number; place = place; covered = 0 }
 
 -- the count of the corners written
-abbrev pub counted-face : Answer (List Stream) → Counted
+abbrev pub counted-face : Answer (List Stream) → CountedC
 counted-face (done r) = record { number = 0; place = 0; count = length r }
 counted-face (refused number place) = record { number = number; place = place; count = 0 }
 
 -- the same, from the count that an entry answers
-abbrev pub count-face : Answer ℕ → Counted
+abbrev pub count-face : Answer ℕ → CountedC
 count-face (done n) = record { number = 0; place = 0; count = n }
 count-face (refused number place) = record { number = number; place = place; count = 0 }
 
@@ -38,10 +39,13 @@ pub counted-is : (a : Answer (List Stream)) → count-face (counted a) ≡ count
 counted-is (done r) = refl
 counted-is (refused number place) = refl
 
--- and from what an entry that writes a ring promises
-pub outcome-face : {answer : Answer (List Stream)} {r : Ringed} {east east' north north' : List ℤ} {scratch scratch' : List ℕ}
-    → Outcome answer r east east' north north' scratch scratch' → count-face (ringed-as r) ≡ counted-face answer
-outcome-face {answer} o = ap count-face (o .says) ∙ counted-is answer
+-- and from what an entry that writes a ring promises of its count
+pub told-face : (r : Counted) (a : Answer (List Stream)) → counted-as r ≡ counted a → count-face (counted-as r) ≡ counted-face a
+told-face r a e = ap count-face e ∙ counted-is a
+
+pub outcome-face : {answer : Answer (List Stream)} {r : Counted} {east east' north north' : List ℤ} {scratch scratch' : List ℕ}
+    → Outcome answer r east east' north north' scratch scratch' → count-face (counted-as r) ≡ counted-face answer
+outcome-face {answer} {r} o = told-face r answer (o .says)
 
 -- the parts of a ring's corners, as they are written to the two output lists
 abbrev pub parts-east : List Stream → List ℤ

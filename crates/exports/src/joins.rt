@@ -1,29 +1,10 @@
 // The entries that make a ring: of samples, and of two rings.
-use crate::rings::Counted;
-use closing::Ringed;
+use crate::counts::CountedC;
+use crate::counts::counted;
 ghost use mathlib.Core.Path.{_≡_};
 ghost use Rattle.rules.specs.Refusals.{output-after, scratch-after};
 ghost use Rattle.rules.specs.Entries.{ring-answer, join-answer};
-ghost use Rattle.closing.specs.Meaning.{ringed-as};
-ghost use Rattle.exports.specs.Rings.{counted-face, count-face, parts-east, parts-north};
-
-// How many corners were written, or the refusal.
-fn counted(said: Ringed) -> Counted
-    ensures { λ r. ⌜ r ≡ count-face (ringed-as said) ⌝ }
-{
-    match said {
-        Ringed::Corners(count) => Counted {
-            number: 0,
-            place: 0,
-            count,
-        },
-        Ringed::Refused { number, place } => Counted {
-            number,
-            place,
-            count: 0,
-        },
-    }
-}
+ghost use Rattle.exports.specs.Rings.{counted-face, parts-east, parts-north};
 
 #[no_mangle]
 pub extern "C" fn nuoskelma_ring(
@@ -32,7 +13,7 @@ pub extern "C" fn nuoskelma_ring(
     easts: &mut [i32],
     norths: &mut [i32],
     scratch: &mut [u32],
-) -> Counted
+) -> CountedC
     ensures answer { λ r. ⌜ r ≡ counted-face (ring-answer (now (east .entry)) (now (north .entry)) (now (easts .entry)) (now (norths .entry)) (now (scratch .entry))) ⌝ }
     ensures east { λ _. ⌜ now (easts .exit) ≡ output-after parts-east
         (ring-answer (now (east .entry)) (now (north .entry)) (now (easts .entry)) (now (norths .entry)) (now (scratch .entry))) (now (easts .entry)) ⌝ }
@@ -53,7 +34,7 @@ pub extern "C" fn nuoskelma_join(
     easts: &mut [i32],
     norths: &mut [i32],
     scratch: &mut [u32],
-) -> Counted
+) -> CountedC
     ensures answer { λ r. ⌜ r ≡ counted-face (join-answer (now (east .entry)) (now (north .entry)) (now (east2 .entry)) (now (north2 .entry)) (now (easts .entry)) (now (norths .entry)) (now (scratch .entry))) ⌝ }
     ensures east { λ _. ⌜ now (easts .exit) ≡ output-after parts-east
         (join-answer (now (east .entry)) (now (north .entry)) (now (east2 .entry)) (now (north2 .entry)) (now (easts .entry)) (now (norths .entry)) (now (scratch .entry))) (now (easts .entry)) ⌝ }

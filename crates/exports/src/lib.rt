@@ -2,6 +2,7 @@
 // its place. What an answer does not have is 0.
 mod bridges;
 mod chained;
+mod counts;
 mod doors;
 mod hands;
 mod joins;

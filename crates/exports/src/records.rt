@@ -1,27 +1,16 @@
 // The record reader.
-use crate::rings::Counted;
-use reader::Corners;
+use crate::counts::CountedC;
+use crate::counts::counted;
 ghost use mathlib.Core.Path.{_≡_};
 ghost use Rattle.rules.specs.Refusals.{output-after};
 ghost use Rattle.rules.specs.Entries.{record-answer};
 ghost use Rattle.exports.specs.Rings.{counted-face, parts-east, parts-north};
 
 #[no_mangle]
-pub extern "C" fn nuoskelma_record(bytes: &[u8], east: &mut [i32], north: &mut [i32]) -> Counted
+pub extern "C" fn nuoskelma_record(bytes: &[u8], east: &mut [i32], north: &mut [i32]) -> CountedC
     ensures answer { λ r. ⌜ r ≡ counted-face (record-answer (now (bytes .entry)) (now (east .entry)) (now (north .entry))) ⌝ }
     ensures east { λ _. ⌜ now (east .exit) ≡ output-after parts-east (record-answer (now (bytes .entry)) (now (east .entry)) (now (north .entry))) (now (east .entry)) ⌝ }
     ensures north { λ _. ⌜ now (north .exit) ≡ output-after parts-north (record-answer (now (bytes .entry)) (now (east .entry)) (now (north .entry))) (now (north .entry)) ⌝ }
 {
-    match reader::read_record(bytes, east, north) {
-        Corners::Read(count) => Counted {
-            number: 0,
-            place: 0,
-            count,
-        },
-        Corners::Refused { number, place } => Counted {
-            number,
-            place,
-            count: 0,
-        },
-    }
+    counted(reader::read_record(bytes, east, north))
 }

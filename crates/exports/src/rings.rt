@@ -1,7 +1,8 @@
 // Using a ring: the strongest set, the cover test, turning about.
+use crate::counts::CountedC;
+use crate::counts::counted;
 use envelope::cover::Covered;
 use envelope::strongest::StrongestSet;
-use envelope::turn::Turned;
 ghost use mathlib.Core.Path.{_≡_};
 ghost use Rattle.rules.specs.Refusals.{output-after};
 ghost use Rattle.rules.specs.Entries.{strongest-answer, cover-answer, turn-answer};
@@ -20,14 +21,6 @@ pub struct CoverTold {
     pub number: u32,
     pub place: usize,
     pub covered: u32,
-}
-
-// How many corners were written.
-#[repr(C)]
-pub struct Counted {
-    pub number: u32,
-    pub place: usize,
-    pub count: usize,
 }
 
 #[no_mangle]
@@ -79,23 +72,12 @@ pub extern "C" fn nuoskelma_turn_about(
     north: &[i32],
     easts: &mut [i32],
     norths: &mut [i32],
-) -> Counted
+) -> CountedC
     ensures answer { λ r. ⌜ r ≡ counted-face (turn-answer (now (east .entry)) (now (north .entry)) (now (easts .entry)) (now (norths .entry))) ⌝ }
     ensures east { λ _. ⌜ now (easts .exit) ≡ output-after parts-east
         (turn-answer (now (east .entry)) (now (north .entry)) (now (easts .entry)) (now (norths .entry))) (now (easts .entry)) ⌝ }
     ensures north { λ _. ⌜ now (norths .exit) ≡ output-after parts-north
         (turn-answer (now (east .entry)) (now (north .entry)) (now (easts .entry)) (now (norths .entry))) (now (norths .entry)) ⌝ }
 {
-    match envelope::turn::turn_about(east, north, easts, norths) {
-        Turned::Corners(count) => Counted {
-            number: 0,
-            place: 0,
-            count,
-        },
-        Turned::Refused { number, place } => Counted {
-            number,
-            place,
-            count: 0,
-        },
-    }
+    counted(envelope::turn::turn_about(east, north, easts, norths))
 }

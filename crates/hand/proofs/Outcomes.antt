@@ -14,7 +14,7 @@ use Rattle.hand.specs.declared.Made.{Made}
 use Rattle.hand.specs.declared.Made.the-variants as made
 use Rattle.hand.specs.declared.Edge.{Edge}
 use Rattle.hand.specs.declared.Edge.the-variants as edge
-use Rattle.hand.specs.Meaning.{made-as, edge-as}
+use Rattle.hand.specs.HandAnswers.{made-as, edge-as}
 use Rattle.hand.proofs.Hand.made_for.Kinds as made-kinds
 use Rattle.hand.proofs.Hand.made_for.Reads as made-reads
 use Rattle.hand.proofs.Hand.step.Kinds as step-kinds

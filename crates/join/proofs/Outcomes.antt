@@ -6,19 +6,19 @@ use contract.Lifetimes.{Lfts}
 use denote.Ref.{now}
 use denote.Triple.Clauses.{AtExit}
 use borrow.Fn.Kinds.{Dens, endedOf}
-use Rattle.closing.specs.declared.Ringed.{Ringed}
-use Rattle.closing.specs.Meaning.{ringed-injective}
+use Rattle.samples.specs.declared.answers.Counted.{Counted}
+use Rattle.samples.specs.CountedAnswers.{counted-injective}
 use Rattle.join.proofs.join.Kinds as kinds
 use Rattle.join.proofs.join.Reads as reads
 
-pub join-one : (κs : Lfts 7) (a : Dens κs kinds.ps) (r r' : Ringed) (s s' : AtExit (endedOf 7 kinds.ps kinds.r) κs) →
+pub join-one : (κs : Lfts 7) (a : Dens κs kinds.ps) (r r' : Counted) (s s' : AtExit (endedOf 7 kinds.ps kinds.r) κs) →
     reads.Post κs a r s → reads.Post κs a r' s' →
     (r ≡ r')
     × (now (s .1 .1 .1 .1 .0) ≡ now (s' .1 .1 .1 .1 .0))
     × (now (s .1 .1 .1 .1 .1 .0) ≡ now (s' .1 .1 .1 .1 .1 .0))
     × (now (s .1 .1 .1 .1 .1 .1 .0) ≡ now (s' .1 .1 .1 .1 .1 .1 .0))
 join-one κs a r r' s s' p q = (
-  ringed-injective r r' (p .says ∙ sym (q .says)),
+  counted-injective r r' (p .says ∙ sym (q .says)),
   p .east-after ∙ sym (q .east-after),
   p .north-after ∙ sym (q .north-after),
   p .scratch-is ∙ sym (q .scratch-is),

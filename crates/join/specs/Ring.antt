@@ -15,9 +15,9 @@ use Rattle.rules.specs.Streams.{Stream, streams, sample, mirrored}
 use Rattle.rules.specs.Chain.{UpperChain, empty}
 use Rattle.rules.specs.Ring.{closed}
 use Rattle.rules.specs.Use.{join}
-use Rattle.stack.specs.Places.{listed, listed-alike}
-use Rattle.stack.specs.Walk.{All}
-use Rattle.stack.specs.Closing.{chains-ring}
+use Rattle.laws_stack.specs.Places.{listed, listed-alike}
+use Rattle.laws_stack.specs.DrawnWalk.{All}
+use Rattle.laws_stack.specs.ClosedPlaces.{chains-ring}
 use Rattle.walk.specs.Both.{Corners, both, count, corner-at, listed-at, Stand, Chained}
 use Rattle.closing.specs.Both.{Both, upper-at, lower-at}
 use Rattle.walk.specs.Places.{both-length}
@@ -43,7 +43,7 @@ chain-some : {P : ℕ → Stream} {n : ℕ} (f : ℕ → Stream) (r : ℕ) → U
 chain-some {P} f zero (empty none) h = absurd (none (P 0) (0, h, refl))
 chain-some f (suc r) c h = omega arith
 
-module _ {es ns fs ms : List ℤ} {v ys : List ℕ} {u l : ℕ} (k : ℕ) (a : Chained es ns fs ms true v u) (b : Chained es ns fs ms false ys l) where
+module _ {es ns fs ms : List ℤ} {v ys : List ℕ} {u l : ℕ} (k : ℕ) (a : Chained es ns fs ms false v u) (b : Chained es ns fs ms true ys l) where
   below-both : (i : ℕ) → i < u + l → Dec (i < u) → getD (putMid u k v ys) i 0 < count es fs
   below-both i h (yes p) = rw (put-front u k v ys (a .stand .room) i p) (a .stand .below i p)
   below-both i h (no p) =
@@ -60,19 +60,19 @@ module _ {es ns fs ms : List ℤ} {v ys : List ℕ} {u l : ℕ} (k : ℕ) (a : C
   }
 
   some-both : Dec (0 < count es fs) → (0 < u) ⊎ (l ≡ 0)
-  some-both (yes h) = inl (chain-some (listed-at es ns fs ms true v) u (a .chain) h)
+  some-both (yes h) = inl (chain-some (listed-at es ns fs ms false v) u (a .chain) h)
   some-both (no h) = inr (omega (arith, b .few))
 
   pub chained-both : Both (count es fs) (putMid u k v ys) u l
   chained-both = record { stand = stand-both; some = some-both (decLt 0 (count es fs)) }
 
-  upper-same : listed (listed-at es ns fs ms true v) u ≡ listed (upper-at es ns fs ms (putMid u k v ys) u) u
-  upper-same = listed-alike (listed-at es ns fs ms true v) (upper-at es ns fs ms (putMid u k v ys) u) u
-      (λ i h. ap (corner-at es ns fs ms true) (sym (put-front u k v ys (a .stand .room) i h)))
+  upper-same : listed (listed-at es ns fs ms false v) u ≡ listed (upper-at es ns fs ms (putMid u k v ys) u) u
+  upper-same = listed-alike (listed-at es ns fs ms false v) (upper-at es ns fs ms (putMid u k v ys) u) u
+      (λ i h. ap (corner-at es ns fs ms false) (sym (put-front u k v ys (a .stand .room) i h)))
 
-  lower-same : listed (listed-at es ns fs ms false ys) l ≡ listed (λ i. mirrored (lower-at es ns fs ms (putMid u k v ys) u i)) l
-  lower-same = listed-alike (listed-at es ns fs ms false ys) (λ i. mirrored (lower-at es ns fs ms (putMid u k v ys) u i)) l
-      (λ i h. let room : l ≤ length ys = b .stand .room in ap (corner-at es ns fs ms false) (sym (put-behind u k v ys (a .stand .room) i (omega arith))))
+  lower-same : listed (listed-at es ns fs ms true ys) l ≡ listed (λ i. mirrored (lower-at es ns fs ms (putMid u k v ys) u i)) l
+  lower-same = listed-alike (listed-at es ns fs ms true ys) (λ i. mirrored (lower-at es ns fs ms (putMid u k v ys) u i)) l
+      (λ i h. let room : l ≤ length ys = b .stand .room in ap (corner-at es ns fs ms true) (sym (put-behind u k v ys (a .stand .room) i (omega arith))))
 
   pub chained-ring : Corners es ns fs ms → join (streams es ns) (streams fs ms)
       ≡ closed (listed (upper-at es ns fs ms (putMid u k v ys) u) u) (listed (lower-at es ns fs ms (putMid u k v ys) u) l)

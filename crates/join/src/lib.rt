@@ -6,10 +6,10 @@ ghost use Rattle.rules.specs.Streams.{streams};
 ghost use Rattle.rules.specs.Use.{join};
 ghost use Rattle.rules.specs.Entries.{join-answer};
 ghost use Rattle.walk.specs.Both.{Rings, count};
-ghost use Rattle.closing.specs.Meaning.{unless-short, Outcome};
-use closing::Ringed;
+ghost use Rattle.closing.specs.RingOutcome.{unless-short, Outcome};
 use closing::close;
 use envelope::test::of_ring;
+use samples::answers::Counted;
 use samples::tests::MOST;
 use samples::tests::Tested;
 use walk::chain::chain;
@@ -23,7 +23,7 @@ fn write_join(
     out_east: &mut [i32],
     out_north: &mut [i32],
     scratch: &mut [u32],
-) -> Ringed
+) -> Counted
     requires { ⌜ Rings (now east) (now north) (now east2) (now north2)
         × (count (now east) (now east2) + count (now east) (now east2) ≤ length (now scratch)) ⌝ }
     ensures { λ r. ⌜ Outcome
@@ -31,8 +31,8 @@ fn write_join(
         (join (streams (now (east .entry)) (now (north .entry))) (streams (now (east2 .entry)) (now (north2 .entry)))))
         r (now («out_east» .entry)) (now («out_east» .exit)) (now («out_north» .entry)) (now («out_north» .exit)) (now (scratch .entry)) (now (scratch .exit)) ⌝ }
 {
-    let upper = chain(east, north, east2, north2, true, scratch);
-    let lower = chain(east, north, east2, north2, false, &mut scratch[upper..]);
+    let upper = chain(east, north, east2, north2, false, scratch);
+    let lower = chain(east, north, east2, north2, true, &mut scratch[upper..]);
     close(
         east,
         north,
@@ -56,7 +56,7 @@ pub fn join(
     out_east: &mut [i32],
     out_north: &mut [i32],
     scratch: &mut [u32],
-) -> Ringed
+) -> Counted
     ensures { λ r. ⌜ Outcome
         (join-answer (now (east .entry)) (now (north .entry)) (now (east2 .entry)) (now (north2 .entry)) (now («out_east» .entry))
         (now («out_north» .entry)) (now (scratch .entry)))
@@ -65,24 +65,24 @@ pub fn join(
     match of_ring(east, north) {
         Tested::Passed => {}
         Tested::Refused { number, place } => {
-            return Ringed::Refused { number, place };
+            return Counted::Refused { number, place };
         }
     }
     match of_ring(east2, north2) {
         Tested::Passed => {}
         Tested::Refused { number, place } => {
-            return Ringed::Refused { number, place };
+            return Counted::Refused { number, place };
         }
     }
     let both = east.len() + east2.len();
     if MOST < both {
-        return Ringed::Refused {
+        return Counted::Refused {
             number: 2,
             place: 0,
         };
     }
     if scratch.len() < 16 * both + 64 {
-        return Ringed::Refused {
+        return Counted::Refused {
             number: 4,
             place: 0,
         };

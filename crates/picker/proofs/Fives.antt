@@ -10,10 +10,10 @@ use borrow.Author.Tests.{leb-true, leb-false}
 use lib.Dec.{T, leb, le→leb, not-T}
 use lib.ListN.{length, getD, take, drop, set, length-drop, length-set}
 use lib.Seq.{length-take-le, drop-cons, drop-at, take-add, take-take, take-set-le, take-suc-set, drop-set-add}
-use Rattle.ranks.specs.Counts.{bit, bit-le, bit-yes, bit-no, count}
-use Rattle.ranks.specs.Ranks.{HasRank, under, upto, rank-of-same-items}
-use Rattle.ranks.specs.Numbers.{natural-order, natural-rank-is}
-use Rattle.ranks.specs.Middles.{middle, middles, middle-of-middles, fives, fives-more, length-middles}
+use Rattle.laws_ranks.specs.Counts.{bit, bit-le, bit-yes, bit-no, count}
+use Rattle.laws_ranks.specs.Ranks.{HasRank, under, upto, rank-of-same-items}
+use Rattle.laws_ranks.specs.Numbers.{natural-order, natural-rank-is}
+use Rattle.laws_ranks.specs.Middles.{middle, middles, middle-of-middles, fives, fives-more, length-middles}
 use Rattle.picker.specs.Picking.{Middled, Picks}
 use Rattle.picker.specs.declared.Ranked.{Ranked}
 

@@ -1,6 +1,6 @@
 mod Passes
 mod Fives
 mod Loads
-mod Sides
+mod GoingOn
 mod Answers
 pub mod Unique

@@ -10,7 +10,7 @@ use lib.IntN.{ℤ, pos}
 use lib.Signed.{mag}
 use lib.ListN.{length, getD, take, set, length-set}
 use lib.Seq.{take-all, take-suc-set}
-use Rattle.ranks.specs.Kept.{first-more}
+use Rattle.laws_ranks.specs.Kept.{first-more}
 use Rattle.picker.specs.Keys.{key-of, Words}
 
 pub record Loading (xs : List ℤ) (given now : List ℕ) (i : ℕ) : Type 0 where

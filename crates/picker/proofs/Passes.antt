@@ -11,10 +11,10 @@ use borrow.Author.Tests.{leb-true, leb-false}
 use lib.Dec.{leb, ltb}
 use lib.ListN.{length, getD, take, drop, set, length-take, length-drop, length-set}
 use lib.Seq.{take-suc, take-suc-set, take-set-le, drop-set-lt, drop-set-add, getD-drop, getD-set-other}
-use Rattle.ranks.specs.Kept.{first-more, stored, Kept, kept-none, kept-more, kept-most, kept-same}
-use Rattle.ranks.specs.Ranks.{OrderOn, order-on, HasRank, under, over}
-use Rattle.ranks.specs.Least.{LeastOut, out-one, out-more, out-first, out-next}
-use Rattle.ranks.specs.Numbers.{natural-order, natural-under}
+use Rattle.laws_ranks.specs.Kept.{first-more, stored, Kept, kept-none, kept-more, kept-most, kept-same}
+use Rattle.laws_ranks.specs.Ranks.{OrderOn, order-on, HasRank, under, over}
+use Rattle.laws_ranks.specs.Least.{LeastOut, out-one, out-more, out-first, out-next}
+use Rattle.laws_ranks.specs.Numbers.{natural-order, natural-under}
 use Rattle.picker.specs.Picking.{Pickable, Parted}
 
 -- ---- keys parted

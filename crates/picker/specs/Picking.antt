@@ -5,9 +5,9 @@ use mathlib.Core.List.{List}
 use Prim.Native.Nat.{ℕ, _*_, _/_, _≤_}
 use lib.Dec.{leb}
 use lib.ListN.{length, take, drop}
-use Rattle.ranks.specs.Kept.{Kept}
-use Rattle.ranks.specs.Ranks.{HasRank, under, over}
-use Rattle.ranks.specs.Middles.{middles, middle-of-middles}
+use Rattle.laws_ranks.specs.Kept.{Kept}
+use Rattle.laws_ranks.specs.Ranks.{HasRank, under, over}
+use Rattle.laws_ranks.specs.Middles.{middles, middle-of-middles}
 use Rattle.picker.specs.declared.Ranked.{Ranked}
 use Rattle.picker.specs.declared.scan.Counts.{Counts}
 

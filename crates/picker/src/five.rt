@@ -4,7 +4,7 @@ ghost use mathlib.Core.List.{[], _∷_};
 ghost use Prim.Native.Nat.{_+_, _*_, _≤_, min, max};
 ghost use lib.Dec.{leb};
 ghost use lib.ListN.{length, take, drop};
-ghost use Rattle.ranks.specs.Middles.{middle};
+ghost use Rattle.laws_ranks.specs.Middles.{middle};
 ghost use Rattle.picker.specs.Picking.{Middled};
 
 pub fn lesser(a: u32, b: u32) -> u32

@@ -5,8 +5,8 @@ ghost use Prim.Native.Nat.{_+_, _*_, _-_, _≤_};
 ghost use lib.Dec.{leb};
 ghost use lib.ListN.{length, take, drop};
 ghost use mathlib.Core.Path.{_≡_};
-ghost use Rattle.ranks.specs.Ranks.{HasRank};
-ghost use Rattle.ranks.specs.Least.{LeastOut};
+ghost use Rattle.laws_ranks.specs.Ranks.{HasRank};
+ghost use Rattle.laws_ranks.specs.Least.{LeastOut};
 ghost use Rattle.picker.specs.Picking.{Pickable, Parted};
 
 // How many keys are below a key, and how many above it.

@@ -14,15 +14,14 @@ use Rattle.rules.specs.Ring.{ring}
 use Rattle.rules.specs.Refusals.{Answer, refused, done, output-after}
 use Rattle.rules.specs.Entries.{easts, norths, ring-answer, counted}
 use Rattle.rules.specs.Program.{most-lines, samples, ring-of-text, printed}
-use Rattle.rounds.specs.Steps.{no-step-without-bridge}
+use Rattle.laws_rounds.specs.Steps.{no-step-without-bridge}
 use Rattle.samples.specs.Samples.{streams-length}
-use Rattle.text.specs.Meaning as text
+use Rattle.text.specs.TextAnswers as text
 use Rattle.text.specs.Lines.{room-for-all, samples-few}
-use Rattle.text.specs.declared.reading.Read.{Read}
-use Rattle.text.specs.declared.reading.Read.the-variants as read
-use Rattle.closing.specs.declared.Ringed.{Ringed}
-use Rattle.closing.specs.declared.Ringed.the-variants as ringed
-use Rattle.closing.specs.Meaning.{ringed-as, Outcome}
+use Rattle.samples.specs.CountedAnswers.{counted-as}
+use Rattle.samples.specs.declared.answers.Counted.{Counted}
+use Rattle.samples.specs.declared.answers.Counted.the-variants as counts
+use Rattle.closing.specs.RingOutcome.{Outcome}
 use Rattle.program.specs.Room.{ring-few, ring-of-samples-room}
 use Rattle.program.specs.Told.{told-refused, Told, told}
 
@@ -55,19 +54,19 @@ done-ring xs all = go (some-of beyond xs)
     go false e = cc
 
 -- what comes of the entry
-module _ (es ns : List ℤ) {east east' north north' : List ℤ} {scratch scratch' : List ℕ} {r : Ringed}
+module _ (es ns : List ℤ) {east east' north north' : List ℤ} {scratch scratch' : List ℕ} {r : Counted}
     (o : Outcome (ring-answer es ns east north scratch) r east east' north north' scratch scratch') (even : length es ≡ length ns)
     (few : length es ≤ 512) (e : 1024 ≤ length east) (n : 1024 ≤ length north) (s : 8256 ≤ length scratch) where
   answers : ring-answer es ns east north scratch ≡ ring-of-text (done (streams es ns))
   answers = ring-answers es ns east north scratch even few e n s
 
-  pub ring-refused : (k p : ℕ) → r ≡ ringed.Refused k p → ring-of-text (done (streams es ns)) ≡ refused k p
-  ring-refused k p q = sym answers ∙ told-refused (ring-answer es ns east north scratch) k p (sym (ap ringed-as q) ∙ o .says)
+  pub ring-refused : (k p : ℕ) → r ≡ counts.Refused k p → ring-of-text (done (streams es ns)) ≡ refused k p
+  ring-refused k p q = sym answers ∙ told-refused (ring-answer es ns east north scratch) k p (sym (ap counted-as q) ∙ o .says)
 
-  pub ring-told : (m : ℕ) → r ≡ ringed.Corners m → Told (ring-of-text (done (streams es ns))) m east' north'
+  pub ring-told : (m : ℕ) → r ≡ counts.Count m → Told (ring-of-text (done (streams es ns))) m east' north'
   ring-told m q =
       subst (λ (a : Answer (List Stream)). Told a m east' north') answers
-      (told (ring-answer es ns east north scratch) east east' north north' m (o .east-after) (o .north-after) (sym (ap ringed-as q) ∙ o .says))
+      (told (ring-answer es ns east north scratch) east east' north north' m (o .east-after) (o .north-after) (sym (ap counted-as q) ∙ o .says))
 
 module _ (es ns : List ℤ) (even : length es ≡ length ns) (few : length es ≤ 512) where
   pub ring-count : {m : ℕ} {east north : List ℤ} → Told (ring-of-text (done (streams es ns))) m east north → m ≤ 1024
@@ -79,20 +78,20 @@ module _ (es ns : List ℤ) (even : length es ≡ length ns) (few : length es �
 -- ---- the text
 
 -- what comes of reading a text into lists of as many places as it can have samples
-module _ (bs : List ℕ) (east east' north north' : List ℤ) (e : most-lines ≤ length east) (n : most-lines ≤ length north) (r : Read)
-    (says : text.read-as r ≡ counted (text.samples-answer bs east north)) where
-  reads : text.read-as r ≡ counted (samples bs)
+module _ (bs : List ℕ) (east east' north north' : List ℤ) (e : most-lines ≤ length east) (n : most-lines ≤ length north) (r : Counted)
+    (says : counted-as r ≡ counted (text.samples-answer bs east north)) where
+  reads : counted-as r ≡ counted (samples bs)
   reads = says ∙ ap counted (room-for-all bs east north e n)
 
-  pub text-refused : (k p : ℕ) → r ≡ read.Refused k p → samples bs ≡ refused k p
-  text-refused k p q = told-refused (samples bs) k p (sym (ap text.read-as q) ∙ reads)
+  pub text-refused : (k p : ℕ) → r ≡ counts.Refused k p → samples bs ≡ refused k p
+  text-refused k p q = told-refused (samples bs) k p (sym (ap counted-as q) ∙ reads)
 
   pub text-told : east' ≡ output-after easts (text.samples-answer bs east north) east →
       north' ≡ output-after norths (text.samples-answer bs east north) north →
-      (m : ℕ) → r ≡ read.Samples m → Told (samples bs) m east' north'
+      (m : ℕ) → r ≡ counts.Count m → Told (samples bs) m east' north'
   text-told a b m q =
       let s = room-for-all bs east north e n in
-      told (samples bs) east east' north north' m (rw s at a) (rw s at b) (sym (ap text.read-as q) ∙ reads)
+      told (samples bs) east east' north north' m (rw s at a) (rw s at b) (sym (ap counted-as q) ∙ reads)
 
 pub text-count : (bs : List ℕ) {m : ℕ} {east north : List ℤ} → Told (samples bs) m east north → m ≤ 512
 text-count bs t = omega (arith, samples-few bs (t .all) (t .is-done), t .many)

@@ -13,8 +13,8 @@ use Rattle.rules.specs.Chain.{corners, left-end, next-corner, upper, lower}
 use Rattle.rules.specs.Ring.{first-of, last-of, equals, leave-first, leave-last, closed, ring}
 use Rattle.rules.specs.Refusals.{refused, done}
 use Rattle.rules.specs.Program.{ring-of-text, printed}
-use Rattle.rings.specs.Rings.{ring-sample}
-use Rattle.outline.specs.Lists.{none-of-is, is-none-of}
+use Rattle.laws_rings.specs.Rings.{ring-sample}
+use Rattle.laws_outline.specs.ListLaws.{none-of-is, is-none-of}
 use Rattle.text.specs.Room.{ring-room, refusal-room}
 
 -- ---- no more corners than two chains have

@@ -8,11 +8,10 @@ ghost use Rattle.rules.specs.Streams.{streams};
 ghost use Rattle.rules.specs.Refusals.{done};
 ghost use Rattle.rules.specs.Program.{ring-of-text, printed, program};
 ghost use Rattle.program.specs.Prints.{Answers};
-use closing::Ringed;
 use ring::ring;
+use samples::answers::Counted;
 use text::printing::print_refusal;
 use text::printing::print_ring;
-use text::reading::Read;
 use text::reading::samples;
 
 // at most so many lines, and so samples
@@ -45,8 +44,8 @@ pub fn answer(text: &[u8], out: &mut [u8; ROOM]) -> usize
     let mut east = [0i32; SAMPLES];
     let mut north = [0i32; SAMPLES];
     match samples(text, &mut east, &mut north) {
-        Read::Refused { number, place } => print_refusal(number, place, out),
-        Read::Samples(count) => print_ring_of(&east[..count], &north[..count], out),
+        Counted::Refused { number, place } => print_refusal(number, place, out),
+        Counted::Count(count) => print_ring_of(&east[..count], &north[..count], out),
     }
 }
 
@@ -61,7 +60,7 @@ fn print_ring_of(east: &[i32], north: &[i32], out: &mut [u8; ROOM]) -> usize
     let mut ring_north = [0i32; CORNERS];
     let mut scratch = [0u32; SCRATCH];
     match ring(east, north, &mut ring_east, &mut ring_north, &mut scratch) {
-        Ringed::Refused { number, place } => print_refusal(number, place, out),
-        Ringed::Corners(count) => print_ring(&ring_east[..count], &ring_north[..count], out),
+        Counted::Refused { number, place } => print_refusal(number, place, out),
+        Counted::Count(count) => print_ring(&ring_east[..count], &ring_north[..count], out),
     }
 }

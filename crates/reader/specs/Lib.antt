@@ -1,4 +1,4 @@
-pub mod Meaning
+pub mod RecordAnswers
 pub mod Corners
 pub mod Written
 pub mod Outcome

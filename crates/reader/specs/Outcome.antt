@@ -17,7 +17,7 @@ use Rattle.rules.specs.Refusals.{Answer, refused, done, Test, test, unless, too
 use Rattle.rules.specs.Entries.{record-corners, record-answer, ring-short}
 use Rattle.samples.specs.Scans.{some-by-place}
 use Rattle.samples.specs.Tests.{refuses, passes}
-use Rattle.reader.specs.Meaning.{frame-number, misframed}
+use Rattle.reader.specs.RecordAnswers.{frame-number, misframed}
 
 -- ---- three tests, and the number of the one that holds
 

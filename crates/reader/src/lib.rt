@@ -9,62 +9,58 @@ ghost use Rattle.rules.specs.Use.{envelope};
 ghost use Rattle.rules.specs.Record.{word, twos};
 ghost use Rattle.rules.specs.Refusals.{output-after};
 ghost use Rattle.rules.specs.Entries.{record-corners, record-answer, easts, norths, counted};
-ghost use Rattle.ringside.specs.Meaning.{stream-of};
+ghost use Rattle.samples.specs.HeldStream.{stream-of};
 ghost use Rattle.envelope.specs.Walks.{round-from};
-ghost use Rattle.reader.specs.Meaning.{corners-as, frame-number, turns-at, closes-at, Passed, Room};
-use ringside::Stream;
-use ringside::beyond;
-use ringside::leftmost;
-use ringside::strictly_right;
+ghost use Rattle.samples.specs.CountedAnswers.{counted-as};
+ghost use Rattle.reader.specs.RecordAnswers.{frame-number, turns-at, closes-at, Passed, Room};
+use samples::answers::Counted;
+use samples::streams::Stream;
+use samples::streams::beyond;
+use samples::streams::leftmost;
+use samples::streams::strictly_right;
 use samples::tests::MOST;
 
-// What comes of a record: so many corners, or a refusal's number and place.
-pub enum Corners {
-    Read(usize),
-    Refused { number: u32, place: usize },
-}
-
 // The corners of a record at the front of the two outputs. A refusal alters neither.
-pub fn read_record(bytes: &[u8], east: &mut [i32], north: &mut [i32]) -> Corners
-    ensures answer { λ r. ⌜ corners-as r ≡ counted (record-answer (now (bytes .entry)) (now (east .entry)) (now (north .entry))) ⌝ }
+pub fn read_record(bytes: &[u8], east: &mut [i32], north: &mut [i32]) -> Counted
+    ensures answer { λ r. ⌜ counted-as r ≡ counted (record-answer (now (bytes .entry)) (now (east .entry)) (now (north .entry))) ⌝ }
     ensures east { λ _. ⌜ now (east .exit) ≡ output-after easts (record-answer (now (bytes .entry)) (now (east .entry)) (now (north .entry))) (now (east .entry)) ⌝ }
     ensures north { λ _. ⌜ now (north .exit) ≡ output-after norths (record-answer (now (bytes .entry)) (now (east .entry)) (now (north .entry))) (now (north .entry)) ⌝ }
 {
     let number = frame(bytes);
     if number != 0 {
-        return Corners::Refused { number, place: 0 };
+        return Counted::Refused { number, place: 0 };
     }
     let n = (bytes.len() - 5) / 8;
     if MOST < n {
-        return Corners::Refused {
+        return Counted::Refused {
             number: 2,
             place: 0,
         };
     }
     let place = first_beyond(bytes, n);
     if place < n {
-        return Corners::Refused { number: 3, place };
+        return Counted::Refused { number: 3, place };
     }
     if !is_envelope(bytes, n) {
-        return Corners::Refused {
+        return Counted::Refused {
             number: 9,
             place: 0,
         };
     }
     if east.len() < n {
-        return Corners::Refused {
+        return Counted::Refused {
             number: 5,
             place: 0,
         };
     }
     if north.len() < n {
-        return Corners::Refused {
+        return Counted::Refused {
             number: 5,
             place: 0,
         };
     }
     write(bytes, n, east, north);
-    Corners::Read(n)
+    Counted::Count(n)
 }
 
 // The refusal of the bytes around the corners, 17 if empty, 16, 17; 0 if there is none.

@@ -10,12 +10,12 @@ use Rattle.rules.specs.Streams.{Stream, streams}
 use Rattle.rules.specs.Ring.{ring}
 use Rattle.rules.specs.Refusals.{Answer, refused, Test, test, unless}
 use Rattle.rules.specs.Entries.{step-without-bridge, ring-short, ring-answer}
-use Rattle.rounds.specs.Steps.{no-step-without-bridge}
+use Rattle.laws_rounds.specs.Steps.{no-step-without-bridge}
 use Rattle.samples.specs.Tests.{tested-of, sample-tests, then-answer, answer-by, quiet-number}
 use Rattle.samples.specs.declared.tests.Tested.{Tested}
 use Rattle.samples.specs.declared.tests.Tested.the-variants.{Passed, Refused}
-use Rattle.closing.specs.Meaning.{unless-short, Outcome, outcome-refused}
-use Rattle.closing.specs.declared.Ringed.the-variants as ringed
+use Rattle.closing.specs.RingOutcome.{unless-short, Outcome, outcome-refused}
+use Rattle.samples.specs.declared.answers.Counted.the-variants as counts
 
 module _ (es ns east north : List ℤ) (scratch : List ℕ) where
   -- 1, 2, 3, 4
@@ -36,7 +36,7 @@ module _ (es ns east north : List ℤ) (scratch : List ℕ) where
   unfolding ring-answer
   by-tests t e = answer-by tests later made e
 
-  pub refused-early : {k p : ℕ} → tested-of tests ≡ Refused k p → Outcome answer (ringed.Refused k p) east east north north scratch scratch
+  pub refused-early : {k p : ℕ} → tested-of tests ≡ Refused k p → Outcome answer (counts.Refused k p) east east north north scratch scratch
   refused-early {k} {p} e = outcome-refused k p (by-tests (Refused k p) e) (quiet-number tests tt e)
 
   -- no step lacks its bridge, so where the tests are passed the outputs decide

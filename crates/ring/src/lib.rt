@@ -1,11 +1,11 @@
 // The ring of samples: both chains, made in scratch by chain steps, closed and written.
 
 ghost use Rattle.rules.specs.Entries.{ring-answer};
-ghost use Rattle.closing.specs.Meaning.{Outcome};
+ghost use Rattle.closing.specs.RingOutcome.{Outcome};
 use chains::sides::Sides;
 use chains::sides::sides_of;
-use closing::Ringed;
 use closing::close;
+use samples::answers::Counted;
 use samples::tests::Tested;
 use samples::tests::of_samples;
 use samples::words::clear;
@@ -18,17 +18,17 @@ pub fn ring(
     out_east: &mut [i32],
     out_north: &mut [i32],
     scratch: &mut [u32],
-) -> Ringed
+) -> Counted
     ensures { λ r. ⌜ Outcome
         (ring-answer (now (east .entry)) (now (north .entry)) (now («out_east» .entry)) (now («out_north» .entry)) (now (scratch .entry)))
         r (now («out_east» .entry)) (now («out_east» .exit)) (now («out_north» .entry)) (now («out_north» .exit)) (now (scratch .entry)) (now (scratch .exit)) ⌝ }
 {
     match of_samples(east, north, scratch.len()) {
-        Tested::Refused { number, place } => Ringed::Refused { number, place },
+        Tested::Refused { number, place } => Counted::Refused { number, place },
         Tested::Passed => match sides_of(east, north, scratch) {
             Sides::NoBridge => {
                 clear(scratch);
-                Ringed::Refused {
+                Counted::Refused {
                     number: 18,
                     place: 0,
                 }

@@ -1,4 +1,4 @@
-pub mod Words
+pub mod RoundWords
 pub mod Places
 pub mod Pairing
 pub mod Sloping

@@ -16,7 +16,7 @@ use Rattle.rules.specs.Round.{Slope, slope}
 use Rattle.slopes.specs.Fractions.{fraction}
 use Rattle.samples.specs.Positions.{Near}
 use Rattle.round.specs.Slopes.{PairSlope}
-use Rattle.round.proofs.Words.{two-leaves, natural}
+use Rattle.round.proofs.RoundWords.{two-leaves, natural}
 
 -- a slope from its words: x is the rise plus 2,000,000, y the run
 has-slope : (x y : ℤ) (k : Slope) → pos 0 ≤ℤ x → pos 0 <ℤ y → k .rise ≡ x -ℤ pos 2000000 → k .run ≡ y

@@ -13,7 +13,7 @@ use lib.Seq.{length-take-le, getD-take, take-append-le}
 use Rattle.rules.specs.Streams.{Stream}
 use Rattle.rules.specs.Bridge.{ends}
 use Rattle.rules.specs.Round as rules
-use Rattle.ranks.specs.Ranks.{HasRank}
+use Rattle.laws_ranks.specs.Ranks.{HasRank}
 use Rattle.slopes.specs.Fractions.{fractions, Near, Picked}
 use Rattle.slopes.specs.Laws.{length-fractions}
 use Rattle.round.specs.declared.core.Said.{Said}

@@ -19,7 +19,8 @@ use Rattle.whole.specs.Fits.{Within, []ʷ, _∷ʷ_, value-within, at-most, at-l
 use Rattle.rules.specs.Lists.{best-from}
 use Rattle.rules.specs.Streams.{Stream, limit, eqZ}
 use Rattle.rules.specs.Round.{Slope, height, left-top, right-top}
-use Rattle.outline.specs.Lists.{at-place-in, two-keys-yes, two-keys-no}
+use Rattle.laws_outline.specs.ListLaws.{at-place-in}
+use Rattle.laws_outline.specs.TwoKeys.{two-keys-yes, two-keys-no}
 use Rattle.samples.specs.Positions.{Near}
 use Rattle.round.specs.declared.tops.Top.{Top}
 use Rattle.round.specs.Tops.{spread, scaled, key, better-of}

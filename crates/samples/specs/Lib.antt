@@ -1,3 +1,6 @@
+pub mod CountedAnswers
+pub mod HeldStream
+pub mod StreamWords
 pub mod Positions
 pub mod Scans
 pub mod Samples

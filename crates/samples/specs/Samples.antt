@@ -17,7 +17,7 @@ use Rattle.rules.specs.Lists.{some-of, first-place}
 use Rattle.rules.specs.Streams.{Stream, stream, streams, sample, limit, within, beyond, mirrored}
 use Rattle.rules.specs.Bridge.{spans}
 use Rattle.rules.specs.Entries.{easts, norths}
-use Rattle.outline.specs.Lists.{both-no, both-yes, at-place-in, none-of-is}
+use Rattle.laws_outline.specs.ListLaws.{both-no, both-yes, at-place-in, none-of-is}
 use Rattle.samples.specs.Positions.{faced, at, east-of, easts-span, Near, Sampled, Listed}
 use Rattle.samples.specs.Scans.{some-by-place}
 

@@ -13,7 +13,7 @@ use mir.Val.{boolByte}
 use lib.Seq.{drop-cons}
 use borrow.Author.Tests.{lt-ltb, le-ltb}
 use Rattle.rules.specs.Lists.{first-place, some-of}
-use Rattle.outline.specs.Lists.{first-place-in, no-first-place}
+use Rattle.laws_outline.specs.ListLaws.{first-place-in, no-first-place}
 
 or-true : (b : Bool) → (b || true) ≡ true
 or-true true = refl

@@ -1,4 +1,7 @@
-// The samples as they lie in two lent lists of parts: their positions, the tests that entries over samples make, and the words of scratch and output.
+// What the entries share: a stream by value, the samples as they lie in two lent lists of parts, the tests that entries make, and the words of scratch and
+// output.
+pub mod answers;
 pub mod position;
+pub mod streams;
 pub mod tests;
 pub mod words;

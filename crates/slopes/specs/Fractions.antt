@@ -8,7 +8,7 @@ use lib.ListN.{length, getD, set}
 use Rattle.whole.specs.Fits.{Within}
 use Rattle.rules.specs.Picker.{ranked}
 use Rattle.rules.specs.Round.{Slope, slope-le}
-use Rattle.ranks.specs.Ranks.{HasRank, Level}
+use Rattle.laws_ranks.specs.Ranks.{HasRank, Level}
 use Rattle.slopes.specs.declared.Slope as code
 
 -- a slope of the code

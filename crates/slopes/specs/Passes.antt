@@ -7,9 +7,9 @@ use Prim.Native.Nat.{ℕ, _+_, _-_, _*_, _≤_, _<_}
 use lib.ListN.{length, getD, drop}
 use Rattle.rules.specs.Lists.{those}
 use Rattle.rules.specs.Round.{Slope, slope-le}
-use Rattle.ranks.specs.Counts.{count}
-use Rattle.ranks.specs.Ranks.{HasRank, under, over}
-use Rattle.ranks.specs.Least.{LeastOut}
+use Rattle.laws_ranks.specs.Counts.{count}
+use Rattle.laws_ranks.specs.Ranks.{HasRank, under, over}
+use Rattle.laws_ranks.specs.Least.{LeastOut}
 use Rattle.slopes.specs.Fractions.{fraction, fractions, put, Part, Sound, Pickable, Near}
 use Rattle.slopes.specs.declared.scan.Counts as code
 

@@ -13,14 +13,14 @@ use lib.ListN.{length, getD, drop, take, length-drop}
 use lib.Seq.{getD-drop, take-all}
 use Rattle.rules.specs.Lists.{those, consIf}
 use Rattle.rules.specs.Round.{Slope, slope-le}
-use Rattle.ranks.specs.Counts.{bit, count, count-append, count-le-length, count-not, those-append, of-those}
-use Rattle.ranks.specs.Ranks.{HasRank, under, upto, over}
-use Rattle.ranks.specs.Least.{LeastOut, out-one, out-more, out-first, out-next}
+use Rattle.laws_ranks.specs.Counts.{bit, count, count-append, count-le-length, count-not, those-append, of-those}
+use Rattle.laws_ranks.specs.Ranks.{HasRank, under, upto, over}
+use Rattle.laws_ranks.specs.Least.{LeastOut, out-one, out-more, out-first, out-next}
 use Rattle.slopes.specs.Fractions.{fraction, fraction-at, fractions, put, Part, Sound, Pickable, Near, Picked}
 use Rattle.slopes.specs.Passes.{Shows, Stands, Listed, Roomy, Counted, Kept, Parted, Lifted, Answers, Narrowed, Alike, copied, Copied, Gatherable, Gathered, Pivoted}
 use Rattle.slopes.specs.declared.fraction.Fraction.{Fraction}
 use Rattle.slopes.specs.declared.scan.Counts.{Counts}
-use Rattle.rounds.specs.Slopes.{slope-order}
+use Rattle.laws_rounds.specs.Slopes.{slope-order}
 use Rattle.slopes.specs.Order.{rank-below-on, rank-above-on, fewer-below, fewer-above, level-ranked}
 use Rattle.slopes.specs.Laws.{near-part, one-more, length-fractions, place-of, near-of, fraction-in, fractions-alike, part-is, sound-alike, alike-trans, length-put, put-other, put-alike, put-rise, put-run, fractions-put, sound-put, sound-none, drop-put, drop-put-before}
 

@@ -6,7 +6,7 @@ ghost use Prim.Native.Nat.{_+_, _*_, _<_};
 ghost use lib.IntN.{_*ℤ_};
 ghost use lib.ListN.{length, getD};
 ghost use Rattle.rules.specs.Round.{slope-le};
-ghost use Rattle.ranks.specs.Ranks.{under};
+ghost use Rattle.laws_ranks.specs.Ranks.{under};
 ghost use Rattle.slopes.specs.Fractions.{as-slope, put, Part, Near};
 ghost use Rattle.slopes.specs.Passes.{Shows, Stands, copied};
 

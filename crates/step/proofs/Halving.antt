@@ -9,10 +9,10 @@ use native.Mathlib.Omega.{arith}
 use lib.IntN.{ℤ}
 use lib.ListN.{length, take, drop, length-drop}
 use lib.Seq.{paste, drop-drop, take-add, length-take-le, length-paste}
-use Rattle.outline.specs.Lists.{those-most}
+use Rattle.laws_outline.specs.ListLaws.{those-most}
 use Rattle.samples.specs.Positions.{Listed, east-of}
 use Rattle.step.specs.Parts.{CopyAsks, same-part, part-long, front-first, front-second, paste-part}
-use Rattle.step.specs.Lists.{past, beyond-numbers, BeyondAsks, Beyond}
+use Rattle.step.specs.NumberLists.{past, beyond-numbers, BeyondAsks, Beyond}
 use Rattle.step.specs.Stepping.{HalvesAsk, HalvesSay}
 
 module _ {es : List ℤ} {w : List ℕ} {t i j : ℕ} (asks : HalvesAsk es w t i j) where

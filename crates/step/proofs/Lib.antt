@@ -1,5 +1,5 @@
-mod Words
+mod SignedWords
 mod Passing
 mod Cutting
 mod Halving
-mod Sides
+mod StepParts

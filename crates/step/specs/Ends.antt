@@ -15,10 +15,11 @@ use lib.Seq.{take-suc, take-all, drop-append-le, length-take-le}
 use Rattle.rules.specs.Lists.{best-from}
 use Rattle.rules.specs.Streams.{Stream, eqZ}
 use Rattle.rules.specs.Chain.{Samples, Of, LeftEnd, RightEnd, leftmost, rightmost}
-use Rattle.outline.specs.Lists.{Ranks, Best, best-from-best, two-keys-rank, two-keys-no}
-use Rattle.rounds.specs.Items.{first-of, best-first}
-use Rattle.rounds.specs.Pairs.{here}
-use Rattle.rounds.specs.WholeList.{numbers, numbers-length, numbers-at}
+use Rattle.laws_outline.specs.ListLaws.{Ranks, Best, best-from-best}
+use Rattle.laws_outline.specs.TwoKeys.{two-keys-rank, two-keys-no}
+use Rattle.laws_rounds.specs.Items.{first-of, best-first}
+use Rattle.laws_rounds.specs.Pairs.{here}
+use Rattle.laws_rounds.specs.WholeList.{numbers, numbers-length, numbers-at}
 
 -- nearer the right end, or else the left end
 abbrev pub nearer : Bool → Stream → Stream → Bool

@@ -12,44 +12,44 @@ use Rattle.rules.specs.Lists.{those}
 use Rattle.rules.specs.Streams.{Stream, stream, streams, sample, mirrored}
 use Rattle.rules.specs.Chain.{upper}
 use Rattle.rules.specs.Step.{first-list}
-use Rattle.outline.specs.Steps.{Ready, first-list-ready}
-use Rattle.rounds.specs.Steps.{BySteps, first-steps, first-list-map}
-use Rattle.rounds.specs.WholeList.{numbers, numbers-samples}
+use Rattle.laws_outline.specs.Steps.{Ready, first-list-ready}
+use Rattle.laws_rounds.specs.Steps.{BySteps, first-steps, first-list-map}
+use Rattle.laws_rounds.specs.WholeList.{numbers, numbers-samples}
 use Rattle.samples.specs.Positions.{at}
 use Rattle.samples.specs.Samples.{streams-length, sample-at, samples-at}
-use Rattle.step.specs.Lists.{between, first-numbers}
+use Rattle.step.specs.NumberLists.{between, first-numbers}
 use Rattle.step.specs.Ends.{EndOf, nearest, nearest-is}
 use Rattle.step.specs.Named.{Named, named-those, named-cons, named-first, named-samples}
 use Rattle.step.specs.Chaining.{Chainable}
-use Rattle.step.specs.Stepping.{facing, number-at}
+use Rattle.step.specs.Stepping.{side-samples, number-at}
 
 -- ---- the samples of a side by their numbers
 
 module _ (es ns : List ℤ) (even : length es ≡ length ns) where
-  facing-length : (lower : Bool) → length (facing es ns lower) ≡ length es
-  facing-length true = length-map (streams es ns) mirrored ∙ streams-length es ns even
-  facing-length false = streams-length es ns even
+  side-length : (lower : Bool) → length (side-samples es ns lower) ≡ length es
+  side-length true = length-map (streams es ns) mirrored ∙ streams-length es ns even
+  side-length false = streams-length es ns even
 
-  facing-at : (lower : Bool) → sample (facing es ns lower) ≡ at es ns lower
-  facing-at true =
+  side-at : (lower : Bool) → sample (side-samples es ns lower) ≡ at es ns lower
+  side-at true =
       fun-ext (λ i. List·getD-map mirrored (streams es ns) i (stream (pos 0) (pos 0)) ∙ ap mirrored (sample-at es ns even i))
-  facing-at false = samples-at es ns even
+  side-at false = samples-at es ns even
 
-  pub facing-all : (lower : Bool) → map (at es ns lower) (numbers (length es)) ≡ facing es ns lower
-  facing-all lower =
+  pub side-all : (lower : Bool) → map (at es ns lower) (numbers (length es)) ≡ side-samples es ns lower
+  side-all lower =
       subst₂
-      (λ (f : ℕ → Stream) (n : ℕ). map f (numbers n) ≡ facing es ns lower)
-      (facing-at lower)
-      (facing-length lower)
-      (numbers-samples (facing es ns lower))
+      (λ (f : ℕ → Stream) (n : ℕ). map f (numbers n) ≡ side-samples es ns lower)
+      (side-at lower)
+      (side-length lower)
+      (numbers-samples (side-samples es ns lower))
 
   named-all : (lower : Bool) → Named (at es ns lower) (number-at es ns lower) (numbers (length es))
   named-all lower =
       subst₂
       (λ (f : ℕ → Stream) (n : ℕ). Named f (number-at es ns lower) (numbers n))
-      (facing-at lower)
-      (facing-length lower)
-      (named-samples (facing es ns lower))
+      (side-at lower)
+      (side-length lower)
+      (named-samples (side-samples es ns lower))
 
   -- ---- the first list
 
@@ -83,9 +83,9 @@ module _ (es ns : List ℤ) (even : length es ≡ length ns) where
         told e = named-first to number all (named-all lower) (e .first)
 
     -- what the rule's steps give over it is the chain of all samples
-    pub first-chain : {C : List Stream} → BySteps (map to (first-numbers es p q)) (to p) (to q) C → C ≡ upper (facing es ns lower)
+    pub first-chain : {C : List Stream} → BySteps (map to (first-numbers es p q)) (to p) (to q) C → C ≡ upper (side-samples es ns lower)
     first-chain {C} b =
-        first-steps (h .is-end) (k .is-end) (subst (λ (xs : List Stream). BySteps xs (to p) (to q) C) (sym first-positions) b) ∙ ap upper (facing-all lower)
+        first-steps (h .is-end) (k .is-end) (subst (λ (xs : List Stream). BySteps xs (to p) (to q) C) (sym first-positions) b) ∙ ap upper (side-all lower)
 
 -- the scan finds the ends
 pub end-is : (to : ℕ → Stream) (right : Bool) (n : ℕ) → 1 ≤ n → EndOf to right (numbers n) (nearest to right (drop 1 (numbers n)))

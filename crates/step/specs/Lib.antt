@@ -1,8 +1,8 @@
 pub mod Parts
-pub mod Lists
+pub mod NumberLists
 pub mod Ends
 pub mod Named
 pub mod Chaining
 pub mod Stepping
 pub mod First
-pub mod StepLists
+pub mod StepCut

@@ -11,10 +11,11 @@ use lib.ListN.{length}
 use Rattle.rules.specs.Lists.{consIf, those}
 use Rattle.rules.specs.Streams.{Stream, sample, same}
 use Rattle.rules.specs.Chain.{lowest}
-use Rattle.outline.specs.Lists.{those-in, is-some-of, same-equal, equal-same}
-use Rattle.rounds.specs.Items.{first-of, first-of-in}
-use Rattle.rounds.specs.Pairs.{here}
-use Rattle.rounds.specs.WholeList.{numbers, numbers-samples, first-is-lowest}
+use Rattle.laws_outline.specs.ListLaws.{those-in, is-some-of}
+use Rattle.laws_outline.specs.SamePosition.{same-equal, equal-same}
+use Rattle.laws_rounds.specs.Items.{first-of, first-of-in}
+use Rattle.laws_rounds.specs.Pairs.{here}
+use Rattle.laws_rounds.specs.WholeList.{numbers, numbers-samples, first-is-lowest}
 
 -- items taken away that fail a second test do not change the first that passes
 first-of-those : {A : Type 0} (f g : A → Bool) → ((x : A) → g x ≡ true → f x ≡ true) → (l : List A) → first-of g (those f l) ≡ first-of g l

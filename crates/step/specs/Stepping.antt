@@ -13,11 +13,11 @@ use Rattle.rules.specs.Streams.{Stream, streams, mirrored, limit}
 use Rattle.rules.specs.Chain.{lowest}
 use Rattle.rules.specs.Picker.{rank}
 use Rattle.rules.specs.Bridge.{ends, spans}
-use Rattle.rounds.specs.Rounds.{Found}
-use Rattle.rounds.specs.Steps.{BySteps}
+use Rattle.laws_rounds.specs.Rounds.{Found}
+use Rattle.laws_rounds.specs.Steps.{BySteps}
 use Rattle.samples.specs.Positions.{at, east-of, Sampled, Listed}
 use Rattle.step.specs.Chaining.{Chainable}
-use Rattle.step.specs.Lists.{beyond-numbers}
+use Rattle.step.specs.NumberLists.{beyond-numbers}
 use Rattle.step.specs.declared.Stepped.{Stepped}
 use Rattle.step.specs.declared.Stepped.the-variants as stepped
 use Rattle.step.specs.declared.Parted.{Parted}
@@ -25,13 +25,13 @@ use Rattle.step.specs.declared.Parted.the-variants.{At, NoBridge}
 use Rattle.bridge.specs.declared.Ends.{Ends}
 
 -- the samples as a side sees them
-abbrev pub facing : List ℤ → List ℤ → Bool → List Stream
-facing es ns true = map mirrored (streams es ns)
-facing es ns false = streams es ns
+abbrev pub side-samples : List ℤ → List ℤ → Bool → List Stream
+side-samples es ns true = map mirrored (streams es ns)
+side-samples es ns false = streams es ns
 
 -- the lowest sample number at a position of that side
 abbrev pub number-at : List ℤ → List ℤ → Bool → Stream → ℕ
-number-at es ns lower s = lowest (facing es ns lower) s
+number-at es ns lower s = lowest (side-samples es ns lower) s
 
 -- ---- the cut
 

@@ -5,7 +5,7 @@ ghost use mathlib.Core.Path.{_≡_};
 ghost use Prim.Native.Nat.{_<_};
 ghost use lib.ListN.{length, drop};
 ghost use Rattle.rules.specs.Streams.{same};
-ghost use Rattle.rounds.specs.WholeList.{numbers};
+ghost use Rattle.laws_rounds.specs.WholeList.{numbers};
 ghost use Rattle.samples.specs.Positions.{at, place};
 ghost use Rattle.step.specs.Ends.{nearer, nearest, EndAsks};
 

@@ -7,9 +7,9 @@ ghost use Prim.Native.Nat.{_+_, _≤_};
 ghost use lib.ListN.{length, take};
 ghost use lib.Seq.{paste};
 ghost use Rattle.picker.specs.Keys.{key-of};
-ghost use Rattle.rounds.specs.WholeList.{numbers};
+ghost use Rattle.laws_rounds.specs.WholeList.{numbers};
 ghost use Rattle.samples.specs.Positions.{east-of};
-ghost use Rattle.step.specs.Lists.{between, past, first-numbers, beyond-numbers, FirstAsks, PassAsks, BeyondAsks, EastsAsk, Passed, Beyond, Listing};
+ghost use Rattle.step.specs.NumberLists.{between, past, first-numbers, beyond-numbers, FirstAsks, PassAsks, BeyondAsks, EastsAsk, Passed, Beyond, Listing};
 
 // x lies strictly between two easts.
 fn between(x: i64, from: i64, to: i64) -> bool

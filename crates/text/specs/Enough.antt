@@ -19,7 +19,7 @@ use Rattle.rules.specs.Refusals.{Answer}
 use Rattle.rules.specs.Program.{unbroken, broken, cut-at, space, newline, negated, not-negated, number, both, parts, line, with-sample, first-line, text, samples, ring-of-text, printed, program}
 use Rattle.text.specs.Cuts.{is, first-place-within, cut-found, cut-none}
 use Rattle.text.specs.Digits.{unsigned-long}
-use Rattle.text.specs.Meaning.{Next, bad-line, good-line, before-rest, next-line}
+use Rattle.text.specs.TextAnswers.{Next, bad-line, good-line, before-rest, next-line}
 use Rattle.text.specs.Lines.{text-bad, text-good}
 
 -- ---- a good line is short

@@ -1,4 +1,4 @@
-pub mod Meaning
+pub mod TextAnswers
 pub mod Cuts
 pub mod Digits
 pub mod Lines

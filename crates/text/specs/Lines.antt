@@ -14,7 +14,7 @@ use Rattle.rules.specs.Streams.{Stream}
 use Rattle.rules.specs.Refusals.{Answer, refused, done}
 use Rattle.rules.specs.Entries.{counted}
 use Rattle.rules.specs.Program.{Cut, unbroken, broken, cut-at, newline, line, most-lines, with-sample, first-line, text, samples}
-use Rattle.text.specs.Meaning.{with-room, samples-answer, bad-line, good-line, before-rest, next-line, Fit}
+use Rattle.text.specs.TextAnswers.{with-room, samples-answer, bad-line, good-line, before-rest, next-line, Fit}
 
 -- what a text's rest gives, after the samples before it
 abbrev pub after : List Stream → Answer (List Stream) → Answer (List Stream)

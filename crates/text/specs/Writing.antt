@@ -12,7 +12,7 @@ use Rattle.rules.specs.Streams.{Stream, stream}
 use Rattle.rules.specs.Refusals.{output-after}
 use Rattle.rules.specs.Entries.{easts, norths}
 use Rattle.rules.specs.Program.{cut-at, newline}
-use Rattle.text.specs.Meaning.{samples-answer, next-line, good-line, Fit}
+use Rattle.text.specs.TextAnswers.{samples-answer, next-line, good-line, Fit}
 use Rattle.text.specs.Lines.{Passed, passed-none, passed-more, passed-all, count-within, more-room, fit-answer}
 
 module _ {A : Type 0} where

@@ -9,7 +9,9 @@ ghost use Rattle.rules.specs.Entries.{easts, norths, counted};
 ghost use Rattle.rules.specs.Program.{samples as samples-of, unsigned, negated, not-negated, number, both, line};
 ghost use Rattle.text.specs.Cuts.{is};
 ghost use Rattle.text.specs.Digits.{digits-after};
-ghost use Rattle.text.specs.Meaning.{samples-answer, read-as, unsigned-as, Small, number-as, line-as, NextLine, Fit};
+ghost use Rattle.samples.specs.CountedAnswers.{counted-as};
+ghost use Rattle.text.specs.TextAnswers.{samples-answer, unsigned-as, Small, number-as, line-as, NextLine, Fit};
+use samples::answers::Counted;
 
 const NEWLINE: u8 = 10;
 
@@ -23,12 +25,6 @@ const NINE: u8 = 57;
 
 // at most so many lines
 const MOST_LINES: usize = 512;
-
-// What comes of a text: so many samples, or a refusal's number and place.
-pub enum Read {
-    Samples(usize),
-    Refused { number: u32, place: usize },
-}
 
 // What digits give.
 enum Unsigned {
@@ -55,41 +51,41 @@ enum Found {
 }
 
 // The samples of a text at the front of the two outputs. The whole text is decided before anything is written, so that a refusal alters neither.
-pub fn samples(text: &[u8], east: &mut [i32], north: &mut [i32]) -> Read
-    ensures answer { λ r. ⌜ read-as r ≡ counted (samples-answer (now (text .entry)) (now (east .entry)) (now (north .entry))) ⌝ }
+pub fn samples(text: &[u8], east: &mut [i32], north: &mut [i32]) -> Counted
+    ensures answer { λ r. ⌜ counted-as r ≡ counted (samples-answer (now (text .entry)) (now (east .entry)) (now (north .entry))) ⌝ }
     ensures east { λ _. ⌜ now (east .exit) ≡ output-after easts (samples-answer (now (text .entry)) (now (east .entry)) (now (north .entry))) (now (east .entry)) ⌝ }
     ensures north { λ _. ⌜ now (north .exit) ≡ output-after norths (samples-answer (now (text .entry)) (now (east .entry)) (now (north .entry))) (now (north .entry)) ⌝ }
 {
     match decide(text) {
-        Read::Refused { number, place } => Read::Refused { number, place },
-        Read::Samples(count) => {
+        Counted::Refused { number, place } => Counted::Refused { number, place },
+        Counted::Count(count) => {
             if east.len() < count {
-                return Read::Refused {
+                return Counted::Refused {
                     number: 5,
                     place: 0,
                 };
             }
             if north.len() < count {
-                return Read::Refused {
+                return Counted::Refused {
                     number: 5,
                     place: 0,
                 };
             }
             write(text, east, north);
-            Read::Samples(count)
+            Counted::Count(count)
         }
     }
 }
 
 // How many samples a text has, or its refusal.
-fn decide(text: &[u8]) -> Read
-    ensures { λ r. ⌜ read-as r ≡ counted (samples-of (now (text .entry))) ⌝ }
+fn decide(text: &[u8]) -> Counted
+    ensures { λ r. ⌜ counted-as r ≡ counted (samples-of (now (text .entry))) ⌝ }
 {
     let mut at: usize = 0;
     let mut count: usize = 0;
     while at < text.len() {
         if count == MOST_LINES {
-            return Read::Refused {
+            return Counted::Refused {
                 number: 2,
                 place: 0,
             };
@@ -103,7 +99,7 @@ fn decide(text: &[u8]) -> Read
                 at = next;
             }
             Found::Bad => {
-                return Read::Refused {
+                return Counted::Refused {
                     number: 15,
                     place: count + 1,
                 };
@@ -111,7 +107,7 @@ fn decide(text: &[u8]) -> Read
         }
         count += 1;
     }
-    Read::Samples(count)
+    Counted::Count(count)
 }
 
 // The samples of a good text, written. Such a text has no bad line.

@@ -2,20 +2,20 @@
 -- say to each other. Assumes nothing.
 use mathlib.Core.Path.{_≡_}
 use mathlib.Core.Logic.{_⊎_}
-use mathlib.Core.Bool.{Bool, true, false, cond}
+use mathlib.Core.Bool.{Bool, true, false}
 use mathlib.Core.List.{List, _++_}
 use Prim.Native.Nat.{ℕ, suc, _+_, _-_, _≤_, _<_}
-use lib.IntN.{ℤ, negℤ}
+use lib.IntN.{ℤ}
 use lib.Signed.{_≤ℤ_}
 use lib.ListN.{length, getD}
 use Rattle.rules.specs.Streams.{Stream, stream, streams, sample, most}
 use Rattle.rules.specs.Chain.{UpperChain}
-use Rattle.outline.specs.Under.{Under}
-use Rattle.samples.specs.Positions.{Near}
-use Rattle.stack.specs.Places.{listed}
-use Rattle.stack.specs.Stack.{With, Before, Upto, Stacked, stays}
-use Rattle.stack.specs.Hills.{Hill}
-use Rattle.stack.specs.Walk.{Range, Left, Draws, Westmost, Comes, All, Walk}
+use Rattle.laws_outline.specs.Under.{Under}
+use Rattle.samples.specs.Positions.{faced, Near}
+use Rattle.laws_stack.specs.Places.{listed}
+use Rattle.laws_stack.specs.Stack.{With, Before, Upto, Stacked, stays}
+use Rattle.laws_stack.specs.Hills.{Hill}
+use Rattle.laws_stack.specs.DrawnWalk.{Range, Left, Draws, Westmost, Comes, All, Walk}
 
 -- ---- the corners
 
@@ -27,7 +27,7 @@ count es fs = length es + length fs
 
 -- as it is, for the upper chain, or mirrored, for the lower
 abbrev pub facing : Bool → Stream → Stream
-facing up s = stream (s .east) (cond up (s .north) (negℤ (s .north)))
+facing lower s = stream (s .east) (faced lower (s .north))
 
 -- two lists of corners that passed their tests: level, and every part within the limit
 pub record Corners (es ns fs ms : List ℤ) : Type 0 where
@@ -47,11 +47,11 @@ module _ (es ns fs ms : List ℤ) where
   east-at k = sample (both es ns fs ms) k .east
 
   abbrev pub corner-at : Bool → ℕ → Stream
-  corner-at up k = facing up (sample (both es ns fs ms) k)
+  corner-at lower k = facing lower (sample (both es ns fs ms) k)
 
   -- the corner whose place stands at i in a list of places
   abbrev pub listed-at : Bool → List ℕ → ℕ → Stream
-  listed-at up w i = corner-at up (getD w i 0)
+  listed-at lower w i = corner-at lower (getD w i 0)
 
 -- ---- what is left of both rings
 
@@ -127,10 +127,10 @@ pub record Hides (f : ℕ → Stream) (t : ℕ) (s : Stream) (r : Bool) : Type 0
   pub hidden : r ≡ true → (0 < t) × (s .east ≡ f (t - 1) .east) × (s .north ≤ℤ f (t - 1) .north)
   pub passes : r ≡ false → (i : ℕ) → i < t → Before (f i) s
 
-module _ (es ns fs ms : List ℤ) (up : Bool) where
+module _ (es ns fs ms : List ℤ) (lower : Bool) where
   -- the corner at place k came to the stack of t corners at the front of w, which leaves r at the front of w'
   pub record Taken (w : List ℕ) (t k : ℕ) (w' : List ℕ) (r : ℕ) : Type 0 where
-    pub comes : Comes (listed-at es ns fs ms up w) t (corner-at es ns fs ms up k) (listed-at es ns fs ms up w') r
+    pub comes : Comes (listed-at es ns fs ms lower w) t (corner-at es ns fs ms lower k) (listed-at es ns fs ms lower w') r
     pub stand : Stand (count es fs) w' r
     pub more : r ≤ suc t
 
@@ -144,10 +144,10 @@ module _ (es ns fs ms : List ℤ) (up : Bool) where
     pub left : i + (b - a + (d - c)) ≡ count es fs
     pub few : top ≤ i
     pub stand : Stand (count es fs) w top
-    pub walk : Walk (corner-at es ns fs ms up) (count es fs) (Left a b c d) (listed-at es ns fs ms up w) top
+    pub walk : Walk (corner-at es ns fs ms lower) (count es fs) (Left a b c d) (listed-at es ns fs ms lower w) top
 
   -- the chain of all corners, r of them at the front of w
   pub record Chained (w : List ℕ) (r : ℕ) : Type 0 where
-    pub chain : UpperChain (All (corner-at es ns fs ms up) (count es fs)) (listed (listed-at es ns fs ms up w) r)
+    pub chain : UpperChain (All (corner-at es ns fs ms lower) (count es fs)) (listed (listed-at es ns fs ms lower w) r)
     pub stand : Stand (count es fs) w r
     pub few : r ≤ count es fs

@@ -32,9 +32,9 @@ pub both-length : {es ns fs ms : List ℤ} → Corners es ns fs ms → length (b
 both-length {es} {ns} {fs} {ms} r =
     length-append (streams es ns) (streams fs ms) ∙ ap₂ _+_ (streams-length es ns (r .even)) (streams-length fs ms (r .even2))
 
-facing-near : (up : Bool) (s : Stream) → Near s → Near (facing up s)
-facing-near true s h = h
-facing-near false s h = record { east-near = h .east-near; north-near = value-within (h .north-near ∷ʷ []ʷ) (⊝ var 0) }
+facing-near : (lower : Bool) (s : Stream) → Near s → Near (facing lower s)
+facing-near false s h = h
+facing-near true s h = record { east-near = h .east-near; north-near = value-within (h .north-near ∷ʷ []ʷ) (⊝ var 0) }
 
-pub corner-near : {es ns fs ms : List ℤ} → Corners es ns fs ms → (up : Bool) (k : ℕ) → Near (corner-at es ns fs ms up k)
-corner-near {es} {ns} {fs} {ms} r up k = facing-near up (sample (both es ns fs ms) k) (r .near k)
+pub corner-near : {es ns fs ms : List ℤ} → Corners es ns fs ms → (lower : Bool) (k : ℕ) → Near (corner-at es ns fs ms lower k)
+corner-near {es} {ns} {fs} {ms} r lower k = facing-near lower (sample (both es ns fs ms) k) (r .near k)

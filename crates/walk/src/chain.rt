@@ -5,16 +5,16 @@ ghost use mathlib.Core.Path.{_≡_};
 ghost use Prim.Native.Nat.{_≤_, _<_};
 ghost use lib.ListN.{length};
 ghost use Rattle.samples.specs.Positions.{Near};
-ghost use Rattle.ringside.specs.Meaning.{stream-of};
-ghost use Rattle.stack.specs.Stack.{stays};
+ghost use Rattle.samples.specs.HeldStream.{stream-of};
+ghost use Rattle.laws_stack.specs.Stack.{stays};
 ghost use Rattle.walk.specs.Both.{Corners, Rings, count, corner-at, listed-at, Stand, Coming, Settled, Next, Hides, Taken, Chained};
 use crate::corners::listed;
 use crate::corners::seen;
 use crate::corners::south;
 use crate::corners::west;
 use crate::draw::draw;
-use ringside::Stream;
-use ringside::strictly_right;
+use samples::streams::Stream;
+use samples::streams::strictly_right;
 
 // The topmost corner of the stack stays when s comes.
 fn stays(
@@ -22,24 +22,24 @@ fn stays(
     north: &[i32],
     east2: &[i32],
     north2: &[i32],
-    up: bool,
+    lower: bool,
     w: &[u32],
     top: usize,
     s: Stream,
 ) -> bool
     requires { ⌜ Corners (now east) (now north) (now east2) (now north2) × Stand (count (now east) (now east2)) (now w) top
         × Near (stream-of s) ⌝ }
-    ensures { λ r. ⌜ r ≡ stays (listed-at (now (east .entry)) (now (north .entry)) (now (east2 .entry)) (now (north2 .entry)) up (now (w .entry)))
+    ensures { λ r. ⌜ r ≡ stays (listed-at (now (east .entry)) (now (north .entry)) (now (east2 .entry)) (now (north2 .entry)) lower (now (w .entry)))
         top (stream-of s) ⌝ }
 {
     if top == 0 {
         return true;
     }
-    let q = listed(east, north, east2, north2, up, w, top - 1);
+    let q = listed(east, north, east2, north2, lower, w, top - 1);
     if top == 1 {
         return west(q, s);
     }
-    let p = listed(east, north, east2, north2, up, w, top - 2);
+    let p = listed(east, north, east2, north2, lower, w, top - 2);
     strictly_right(p, q, s)
 }
 
@@ -49,18 +49,18 @@ fn settled(
     north: &[i32],
     east2: &[i32],
     north2: &[i32],
-    up: bool,
+    lower: bool,
     w: &[u32],
     top: usize,
     s: Stream,
 ) -> usize
     requires { ⌜ Corners (now east) (now north) (now east2) (now north2) × Stand (count (now east) (now east2)) (now w) top × Near (stream-of s)
-        × Coming (listed-at (now east) (now north) (now east2) (now north2) up (now w)) top (stream-of s) ⌝ }
-    ensures { λ r. ⌜ Settled (listed-at (now (east .entry)) (now (north .entry)) (now (east2 .entry)) (now (north2 .entry)) up (now (w .entry)))
+        × Coming (listed-at (now east) (now north) (now east2) (now north2) lower (now w)) top (stream-of s) ⌝ }
+    ensures { λ r. ⌜ Settled (listed-at (now (east .entry)) (now (north .entry)) (now (east2 .entry)) (now (north2 .entry)) lower (now (w .entry)))
         top (stream-of s) r ⌝ }
 {
     let mut t = top;
-    while !stays(east, north, east2, north2, up, w, t, s) {
+    while !stays(east, north, east2, north2, lower, w, t, s) {
         t -= 1;
     }
     t
@@ -72,20 +72,20 @@ fn hides(
     north: &[i32],
     east2: &[i32],
     north2: &[i32],
-    up: bool,
+    lower: bool,
     w: &[u32],
     top: usize,
     s: Stream,
 ) -> bool
     requires { ⌜ Corners (now east) (now north) (now east2) (now north2) × Stand (count (now east) (now east2)) (now w) top
-        × Next (listed-at (now east) (now north) (now east2) (now north2) up (now w)) top (stream-of s) ⌝ }
-    ensures { λ r. ⌜ Hides (listed-at (now (east .entry)) (now (north .entry)) (now (east2 .entry)) (now (north2 .entry)) up (now (w .entry)))
+        × Next (listed-at (now east) (now north) (now east2) (now north2) lower (now w)) top (stream-of s) ⌝ }
+    ensures { λ r. ⌜ Hides (listed-at (now (east .entry)) (now (north .entry)) (now (east2 .entry)) (now (north2 .entry)) lower (now (w .entry)))
         top (stream-of s) r ⌝ }
 {
     if top == 0 {
         return false;
     }
-    let q = listed(east, north, east2, north2, up, w, top - 1);
+    let q = listed(east, north, east2, north2, lower, w, top - 1);
     if west(q, s) {
         return false;
     }
@@ -98,22 +98,22 @@ fn taken(
     north: &[i32],
     east2: &[i32],
     north2: &[i32],
-    up: bool,
+    lower: bool,
     w: &mut [u32],
     top: usize,
     k: usize,
 ) -> usize
     requires { ⌜ Corners (now east) (now north) (now east2) (now north2) × (k < count (now east) (now east2))
         × Stand (count (now east) (now east2)) (now w) top × (top < length (now w))
-        × Next (listed-at (now east) (now north) (now east2) (now north2) up (now w)) top (corner-at (now east) (now north) (now east2) (now north2) up k) ⌝ }
-    ensures { λ r. ⌜ Taken (now (east .entry)) (now (north .entry)) (now (east2 .entry)) (now (north2 .entry)) up
+        × Next (listed-at (now east) (now north) (now east2) (now north2) lower (now w)) top (corner-at (now east) (now north) (now east2) (now north2) lower k) ⌝ }
+    ensures { λ r. ⌜ Taken (now (east .entry)) (now (north .entry)) (now (east2 .entry)) (now (north2 .entry)) lower
         (now (w .entry)) top k (now (w .exit)) r ⌝ }
 {
-    let s = seen(east, north, east2, north2, up, k);
-    if hides(east, north, east2, north2, up, w, top, s) {
+    let s = seen(east, north, east2, north2, lower, k);
+    if hides(east, north, east2, north2, lower, w, top, s) {
         return top;
     }
-    let t = settled(east, north, east2, north2, up, w, top, s);
+    let t = settled(east, north, east2, north2, lower, w, top, s);
     w[t] = k as u32;
     t + 1
 }
@@ -124,11 +124,11 @@ pub fn chain(
     north: &[i32],
     east2: &[i32],
     north2: &[i32],
-    up: bool,
+    lower: bool,
     w: &mut [u32],
 ) -> usize
     requires { ⌜ Rings (now east) (now north) (now east2) (now north2) × (count (now east) (now east2) ≤ length (now w)) ⌝ }
-    ensures { λ r. ⌜ Chained (now (east .entry)) (now (north .entry)) (now (east2 .entry)) (now (north2 .entry)) up (now (w .exit)) r ⌝ }
+    ensures { λ r. ⌜ Chained (now (east .entry)) (now (north .entry)) (now (east2 .entry)) (now (north2 .entry)) lower (now (w .exit)) r ⌝ }
 {
     let n = east.len() + east2.len();
     let mut a = 0;
@@ -139,7 +139,7 @@ pub fn chain(
     let mut i = 0;
     while i < n {
         let x = draw(east, north, east2, north2, a, b, c, d);
-        top = taken(east, north, east2, north2, up, w, top, x.place);
+        top = taken(east, north, east2, north2, lower, w, top, x.place);
         a = x.a;
         b = x.b;
         c = x.c;

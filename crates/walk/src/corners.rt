@@ -6,10 +6,10 @@ ghost use lib.Signed.{ltZ};
 ghost use lib.ListN.{length, getD};
 ghost use Rattle.rules.specs.Streams.{sample, same};
 ghost use Rattle.samples.specs.Positions.{Near};
-ghost use Rattle.ringside.specs.Meaning.{stream-of};
+ghost use Rattle.samples.specs.HeldStream.{stream-of};
 ghost use Rattle.walk.specs.Both.{Corners, both, count, facing, corner-at, listed-at};
-use ringside::Stream;
-use ringside::at;
+use samples::streams::Stream;
+use samples::streams::at;
 
 // p is further west than q.
 pub fn west(p: Stream, q: Stream) -> bool
@@ -35,18 +35,18 @@ pub fn same(p: Stream, q: Stream) -> bool
     false
 }
 
-// The stream as it is, or mirrored.
-fn faced(up: bool, s: Stream) -> Stream
+// The stream as it is, or, for the lower side, mirrored.
+fn faced(lower: bool, s: Stream) -> Stream
     requires { ⌜ Near (stream-of s) ⌝ }
-    ensures { λ r. ⌜ stream-of r ≡ facing up (stream-of s) ⌝ }
+    ensures { λ r. ⌜ stream-of r ≡ facing lower (stream-of s) ⌝ }
 {
-    if up {
-        return s;
+    if lower {
+        return Stream {
+            east: s.east,
+            north: -s.north,
+        };
     }
-    Stream {
-        east: s.east,
-        north: -s.north,
-    }
+    s
 }
 
 // The corner at place k of both rings.
@@ -60,19 +60,19 @@ fn corner(east: &[i32], north: &[i32], east2: &[i32], north2: &[i32], k: usize) 
     at(east2, north2, k - east.len())
 }
 
-// The same, as it is or mirrored.
+// The same as a side sees it.
 pub fn seen(
     east: &[i32],
     north: &[i32],
     east2: &[i32],
     north2: &[i32],
-    up: bool,
+    lower: bool,
     k: usize,
 ) -> Stream
     requires { ⌜ Corners (now east) (now north) (now east2) (now north2) × (k < count (now east) (now east2)) ⌝ }
-    ensures { λ r. ⌜ stream-of r ≡ corner-at (now (east .entry)) (now (north .entry)) (now (east2 .entry)) (now (north2 .entry)) up k ⌝ }
+    ensures { λ r. ⌜ stream-of r ≡ corner-at (now (east .entry)) (now (north .entry)) (now (east2 .entry)) (now (north2 .entry)) lower k ⌝ }
 {
-    faced(up, corner(east, north, east2, north2, k))
+    faced(lower, corner(east, north, east2, north2, k))
 }
 
 // The corner whose place stands at i in a list of places.
@@ -81,13 +81,13 @@ pub fn listed(
     north: &[i32],
     east2: &[i32],
     north2: &[i32],
-    up: bool,
+    lower: bool,
     w: &[u32],
     i: usize,
 ) -> Stream
     requires { ⌜ Corners (now east) (now north) (now east2) (now north2) × (i < length (now w))
         × (getD (now w) i 0 < count (now east) (now east2)) ⌝ }
-    ensures { λ r. ⌜ stream-of r ≡ listed-at (now (east .entry)) (now (north .entry)) (now (east2 .entry)) (now (north2 .entry)) up (now (w .entry)) i ⌝ }
+    ensures { λ r. ⌜ stream-of r ≡ listed-at (now (east .entry)) (now (north .entry)) (now (east2 .entry)) (now (north2 .entry)) lower (now (w .entry)) i ⌝ }
 {
-    seen(east, north, east2, north2, up, w[i] as usize)
+    seen(east, north, east2, north2, lower, w[i] as usize)
 }

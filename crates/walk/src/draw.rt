@@ -1,7 +1,7 @@
 // Both rings walked together from west to east: of the places that are left, a to b of the first ring and c to d of the second, the westmost is drawn.
 
 ghost use mathlib.Core.Path.{_≡_};
-ghost use Rattle.stack.specs.Walk.{Draws};
+ghost use Rattle.laws_stack.specs.DrawnWalk.{Draws};
 ghost use Rattle.walk.specs.Both.{Corners, Span, WestEnd, Spans, Drawn, AtFirst, AtSecond};
 use crate::corners::seen;
 use crate::corners::west;
@@ -28,8 +28,8 @@ fn west_end(
     ensures { λ r. ⌜ WestEnd (now (east .entry)) (now (north .entry)) (now (east2 .entry)) (now (north2 .entry)) lo hi r ⌝ }
 {
     let last = hi - 1;
-    let p = seen(east, north, east2, north2, true, lo);
-    let q = seen(east, north, east2, north2, true, last);
+    let p = seen(east, north, east2, north2, false, lo);
+    let q = seen(east, north, east2, north2, false, last);
     if west(q, p) {
         return last;
     }
@@ -106,8 +106,8 @@ pub fn draw(
     }
     let y = west_end(east, north, east2, north2, c, d);
     if west(
-        seen(east, north, east2, north2, true, y),
-        seen(east, north, east2, north2, true, x),
+        seen(east, north, east2, north2, false, y),
+        seen(east, north, east2, north2, false, x),
     ) {
         return from_second(y, a, b, c, d);
     }

@@ -14,7 +14,7 @@ use Rattle.whole.specs.Solver.{var}
 use Rattle.whole.specs.Fits.{[]ʷ, _∷ᶜ_, cast, step-fits, word-is}
 use Rattle.rules.specs.Bridge.{ends}
 use Rattle.rules.specs.Refusals.{Test}
-use Rattle.rounds.specs.Rounds.{Found}
+use Rattle.laws_rounds.specs.Rounds.{Found}
 use Rattle.samples.specs.declared.tests.Tested.the-variants as tests
 use Rattle.samples.specs.Positions.{at}
 use Rattle.samples.specs.Tests.{tested-of}

@@ -12,7 +12,7 @@ use mir.Val.{toZ, ofZ}
 use mir.Facts.{toZ-ofZ}
 use Rattle.rules.specs.Streams.{Stream}
 use Rattle.rules.specs.Bridge.{ends, spans}
-use Rattle.rounds.specs.Rounds.{Found}
+use Rattle.laws_rounds.specs.Rounds.{Found}
 use Rattle.samples.specs.Positions.{at}
 use Rattle.round.specs.declared.core.Said.{Said}
 use Rattle.round.specs.declared.core.Said.the-variants.{Kept}

@@ -7,7 +7,7 @@ use native.Mathlib.Omega.{arith}
 use mathlib.Core.List.{List}
 use lib.ListN.{length, getD, take, set, length-set}
 use lib.Seq.{ext-getD, getD-take, getD-set-same, getD-set-other, length-take-le}
-use Rattle.rounds.specs.WholeList.{numbers, numbers-length, numbers-at}
+use Rattle.laws_rounds.specs.WholeList.{numbers, numbers-length, numbers-at}
 use Rattle.bridge.proofs.number.Statement.{statement}
 use Rattle.bridge.proofs.number.Tie as tie
 

@@ -6,7 +6,7 @@ use Rattle.samples.specs.Tests.{tested-of, sample-tests}
 use Rattle.samples.specs.declared.tests.Tested.{Tested}
 use Rattle.samples.specs.declared.tests.Tested.the-variants.{Passed}
 use Rattle.chains.specs.declared.sides.Sides.{Sides}
-use Rattle.chains.specs.Sides.{SidesSay, BothAre, sides-ask}
+use Rattle.chains.specs.BothSides.{SidesSay, BothAre, sides-ask}
 use Rattle.chains.proofs.Answers.{refused-early, answered}
 use Rattle.chains.proofs.chains.Statement.{statement}
 use Rattle.chains.proofs.chains.Tie as tie

@@ -3,7 +3,7 @@
 use borrow.Author.Needs.{needs}
 use native.Mathlib.Omega.{arith}
 use denote.Ref.{now}
-use Rattle.stack.specs.Closing.{closes-ring}
+use Rattle.laws_stack.specs.ClosedPlaces.{closes-ring}
 use Rattle.closing.specs.Written.{outcome-east-short, outcome-north-short, outcome-done}
 use Rattle.closing.proofs.close.Statement.{statement}
 use Rattle.closing.proofs.close.Tie as tie

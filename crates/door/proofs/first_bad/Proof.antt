@@ -10,7 +10,7 @@ use Rattle.rules.specs.Door.{part}
 use Rattle.door.specs.declared.Reading.{Reading}
 use Rattle.door.specs.declared.ReadingsAnswer.{ReadingsAnswer}
 use Rattle.door.specs.declared.ReadingsAnswer.the-variants.{Done}
-use Rattle.door.specs.Meaning.{refusal-of, first-refusal}
+use Rattle.door.specs.DoorAnswers.{refusal-of, first-refusal}
 use Rattle.door.proofs.Answers.{Right, found-at, right-at-end, right-if-bad, right-if-taken}
 use Rattle.door.proofs.first_bad.Statement.{statement}
 use Rattle.door.proofs.first_bad.Tie as tie

@@ -5,7 +5,7 @@ use native.Mathlib.Omega.{arith}
 use denote.Ref.{now}
 use borrow.Author.Needs.{needs}
 use Rattle.rules.specs.Door.{taken, readings}
-use Rattle.door.specs.Meaning.{wholes, readings-as}
+use Rattle.door.specs.DoorAnswers.{wholes, readings-as}
 use Rattle.door.proofs.Entry.{lengths-differ, too-many, bad-reading, east-short, north-short, all-taken}
 use Rattle.door.proofs.take_readings.Statement.{statement}
 use Rattle.door.proofs.take_readings.Tie as tie

@@ -11,7 +11,7 @@ use mir.ValLaws.{toZ-ofZ}
 use denote.Ref.{now}
 use borrow.Author.Needs.{needs}
 use Rattle.rules.specs.Door.{part}
-use Rattle.door.specs.Meaning.{whole-of}
+use Rattle.door.specs.DoorAnswers.{whole-of}
 use Rattle.door.proofs.Written.{Front, front-more, front-all}
 use Rattle.door.proofs.write_wholes.Statement.{statement}
 use Rattle.door.proofs.write_wholes.Tie as tie

@@ -10,7 +10,7 @@ use lib.ListN.{length}
 use native.Mathlib.Nat.{le-refl}
 use borrow.Rule.Slice.PartMut.{mid-len, same-len-mid, take-put}
 use Rattle.picker.proofs.Fives.{picked-middle}
-use Rattle.picker.proofs.Sides.{Split, here, fewer-below, below-pickable, below-picks, fewer-above, above-pickable, above-picks}
+use Rattle.picker.proofs.GoingOn.{Split, here, fewer-below, below-pickable, below-picks, fewer-above, above-pickable, above-picks}
 use Rattle.picker.proofs.pick_key.Reads as pick-key
 use Rattle.picker.proofs.pick_key.Kinds as pick-key-kinds
 use Rattle.picker.proofs.+pick_key+pivot.Lts-pick_key as pick-key-lts

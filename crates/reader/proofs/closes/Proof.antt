@@ -6,11 +6,11 @@ use Prim.Native.Nat.{_-_}
 use borrow.Author.Needs.{needs}
 use lib.Signed.{leZ}
 use Rattle.rules.specs.Entries.{record-corners}
-use Rattle.neighbours.specs.Test.{closes}
+use Rattle.laws_neighbours.specs.Test.{closes}
 use Rattle.samples.specs.Positions.{Near}
-use Rattle.ringside.specs.Meaning.{stream-of}
-use Rattle.ringside.specs.Words.{held}
-use Rattle.reader.specs.Meaning.{closes-at}
+use Rattle.samples.specs.HeldStream.{stream-of}
+use Rattle.samples.specs.StreamWords.{held}
+use Rattle.reader.specs.RecordAnswers.{closes-at}
 use Rattle.reader.proofs.closes.Statement.{statement}
 use Rattle.reader.proofs.closes.Tie as tie
 

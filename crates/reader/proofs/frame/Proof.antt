@@ -8,7 +8,7 @@ use lib.Dec.{ltb, eqb}
 use lib.ListN.{length}
 use Prim.Native.Nat.{ℕ, _-_, _%_}
 use Rattle.rules.specs.Record.{version, said-length}
-use Rattle.reader.specs.Meaning.{frame-number, misframed}
+use Rattle.reader.specs.RecordAnswers.{frame-number, misframed}
 use Rattle.reader.proofs.frame.Statement.{statement}
 use Rattle.reader.proofs.frame.Tie as tie
 

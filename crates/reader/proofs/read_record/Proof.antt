@@ -13,7 +13,7 @@ use Rattle.rules.specs.Use.{envelope}
 use Rattle.rules.specs.Refusals.{done}
 use Rattle.rules.specs.Entries.{record-corners}
 use Rattle.samples.specs.Samples.{sample-near}
-use Rattle.reader.specs.Meaning.{frame-number}
+use Rattle.reader.specs.RecordAnswers.{frame-number}
 use Rattle.reader.specs.Corners.{record-count}
 use Rattle.reader.specs.Outcome.{refused-frame, refused-2, refused-3, refused-9, east-short, north-short, answered, long-enough, none-beyond}
 use Rattle.reader.proofs.read_record.Statement.{statement}

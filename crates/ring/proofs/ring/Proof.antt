@@ -7,9 +7,9 @@ use Rattle.samples.specs.Tests.{tested-of, sample-tests}
 use Rattle.samples.specs.declared.tests.Tested.{Tested}
 use Rattle.samples.specs.declared.tests.Tested.the-variants.{Passed}
 use Rattle.chains.specs.declared.sides.Sides.{Sides}
-use Rattle.chains.specs.Sides.{SidesSay, BothAre, sides-ask}
-use Rattle.closing.specs.Meaning.{outcome-as, outcome-from}
-use Rattle.ring.specs.Sides.{samples-corners, sides-closed, sides-both}
+use Rattle.chains.specs.BothSides.{SidesSay, BothAre, sides-ask}
+use Rattle.closing.specs.RingOutcome.{outcome-as, outcome-from}
+use Rattle.ring.specs.ChainsClosed.{samples-corners, sides-closed, sides-both}
 use Rattle.ring.specs.Answers.{refused-early, passed-late}
 use Rattle.ring.proofs.ring.Statement.{statement}
 use Rattle.ring.proofs.ring.Tie as tie

@@ -12,13 +12,13 @@ use lib.IntN.{ℤ}
 use lib.ListN.{length, take, set, length-set}
 use native.Mathlib.Omega.{arith}
 use borrow.Rule.Slice.PartMut.{midOf, putMid, same-len-mid}
-use Rattle.outline.specs.Lists.{same-equal, same-no}
+use Rattle.laws_outline.specs.SamePosition.{same-equal, same-no}
 use Rattle.rules.specs.Streams.{Stream}
 use Rattle.samples.specs.Positions.{at}
 use Rattle.step.specs.declared.Parted.{Parted}
 use Rattle.step.specs.declared.Stepped.{Stepped}
 use Rattle.step.specs.Stepping.{number-at, SplitSays, StepAsks, ChainIs, ChainSays}
-use Rattle.step.proofs.Sides.{some-room, alone-is, cut-asks, split-asks, over-cut, Parts, parts, spare, right-fits, left-less, left-asks, LeftMade, left-made, behind-asks, Copied, right-copied, right-starts, right-less, right-asks, BothMade, both-made, front-asks, chain-is}
+use Rattle.step.proofs.StepParts.{some-room, alone-is, cut-asks, split-asks, over-cut, Parts, parts, spare, right-fits, left-less, left-asks, LeftMade, left-made, behind-asks, Copied, right-copied, right-starts, right-less, right-asks, BothMade, both-made, front-asks, chain-is}
 use Rattle.step.proofs.chain.Reads as chain
 use Rattle.step.proofs.chain.Kinds as chain-kinds
 use Rattle.step.proofs.+chain+step.Lts-chain as chain-lts

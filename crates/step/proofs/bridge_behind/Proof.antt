@@ -13,7 +13,7 @@ use lib.ListN.{length, take, drop}
 use lib.Seq.{take-take}
 use Rattle.rules.specs.Streams.{Stream}
 use Rattle.rules.specs.Bridge.{ends, spans}
-use Rattle.rounds.specs.Rounds.{Found}
+use Rattle.laws_rounds.specs.Rounds.{Found}
 use Rattle.samples.specs.Positions.{at, Listed}
 use Rattle.bridge.specs.Promise.{BridgeAsks}
 use Rattle.step.specs.Parts.{paste-front, paste-part}

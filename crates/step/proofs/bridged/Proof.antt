@@ -5,7 +5,7 @@ use borrow.Author.Needs.{needs, sfits-of}
 use lib.Signed.{leZ, ltZ}
 use Rattle.whole.specs.Laws.{leZ-not-ltZ}
 use Rattle.samples.specs.Positions.{east-of}
-use Rattle.step.proofs.Words.{word, word-less, tells}
+use Rattle.step.proofs.SignedWords.{word, word-less, tells}
 use Rattle.step.proofs.bridged.Statement.{statement}
 use Rattle.step.proofs.bridged.Tie as tie
 

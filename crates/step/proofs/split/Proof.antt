@@ -12,9 +12,9 @@ use lib.Signed.{leZ, ltZ}
 use lib.ListN.{length, take}
 use Rattle.whole.specs.Laws.{test-le, test-lt}
 use Rattle.rules.specs.Bridge.{spans}
-use Rattle.outline.specs.Lists.{both-yes}
-use Rattle.outline.specs.Bridges.{is-spans}
-use Rattle.rounds.specs.Rounds.{found-in}
+use Rattle.laws_outline.specs.ListLaws.{both-yes}
+use Rattle.laws_outline.specs.Bridges.{is-spans}
+use Rattle.laws_rounds.specs.Rounds.{found-in}
 use Rattle.samples.specs.Positions.{at, east-of, Listed}
 use Rattle.step.specs.Stepping.{SplitAsks, BehindAsks, BehindSays, HalvesSay}
 use Rattle.step.proofs.split.Statement.{statement}

@@ -8,7 +8,7 @@ use borrow.Author.Needs.{needs}
 use borrow.Rule.Slice.PartMut.{mid-len}
 use lib.ListN.{length}
 use Rattle.step.specs.declared.Stepped.{Stepped}
-use Rattle.chains.specs.Sides.{SideSays, SideIs}
+use Rattle.chains.specs.BothSides.{SideSays, SideIs}
 use Rattle.chains.proofs.Siding.{both-are}
 use Rattle.chains.proofs.sides.sides_of.Statement.{statement}
 use Rattle.chains.proofs.sides.sides_of.Tie as tie

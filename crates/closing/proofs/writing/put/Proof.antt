@@ -1,7 +1,7 @@
 -- `closing::writing::put` meets its contract. The loop's invariant: the first i corners are written, and the rest is as it was.
 -- Assumes nothing.
 use mathlib.Core.Path.{_≡_, refl, ap, _∙_}
-use mathlib.Core.Bool.{true}
+use mathlib.Core.Bool.{false}
 use mathlib.Core.List.{_++_}
 use Prim.Native.Nat.{ℕ, _≤_, _-_}
 use native.Mathlib.Omega.{arith}
@@ -9,12 +9,12 @@ use lib.ListN.{length, drop, length-set}
 use mir.Syntax.{w32}
 use mir.Facts.{toZ-ofZ}
 use denote.Ref.{now}
-use Rattle.ringside.specs.Meaning.{stream-of}
-use Rattle.stack.specs.Places.{listed, written-on}
+use Rattle.samples.specs.HeldStream.{stream-of}
+use Rattle.laws_stack.specs.Places.{listed, written-on}
 use Rattle.walk.specs.Both.{listed-at}
 use Rattle.closing.specs.Both.{ring-corner}
 use Rattle.closing.specs.Both.{ring-place-below, ring-corner-at}
-use Rattle.walk.specs.Words.{east-of, north-of}
+use Rattle.walk.specs.StreamTests.{east-of, north-of}
 use Rattle.closing.proofs.writing.put.Statement.{statement}
 use Rattle.closing.proofs.writing.put.Tie as tie
 
@@ -46,7 +46,7 @@ corner-is : (c : tie.After-struct-told2 Inv-loop μ-loop) → let a = c .before 
 corner-is c =
     let a = c .before .before .before .before .before .before .before .args in
     c .before .before .listed .ensures
-    ∙ ap (listed-at (now (a .east)) (now (a .north)) (now (a .east2)) (now (a .north2)) true (now (a .w))) (c .before .before .before .place .ensures)
+    ∙ ap (listed-at (now (a .east)) (now (a .north)) (now (a .east2)) (now (a .north2)) false (now (a .w))) (c .before .before .before .place .ensures)
     ∙ ring-corner-at (now (a .east)) (now (a .north)) (now (a .east2)) (now (a .north2)) (now (a .w)) (a .u) (a .hi) (c .before .before .before .before .before .loop .i)
 
 loop-again : tie.Need-loop-again Inv-loop μ-loop

@@ -4,7 +4,7 @@ use mathlib.Core.Path.{_≡_, sym, ap, _∙_}
 use borrow.Author.Needs.{needs}
 use Rattle.rules.specs.Door.{PartIs, part}
 use Rattle.door.specs.declared.ReadingsAnswer.{ReadingsAnswer}
-use Rattle.door.specs.Meaning.{refusal-of, first-refusal}
+use Rattle.door.specs.DoorAnswers.{refusal-of, first-refusal}
 use Rattle.door.proofs.Answers.{refusal-first}
 use Rattle.door.proofs.Reading.refusal_at.Statement.{statement}
 use Rattle.door.proofs.Reading.refusal_at.Tie as tie

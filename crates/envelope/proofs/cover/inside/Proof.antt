@@ -10,7 +10,7 @@ use lib.Signed.{ltZ}
 use lib.ListN.{length}
 use borrow.Author.Tests.{not-true, not-false}
 use Rattle.rules.specs.Streams.{Stream, streams, side}
-use Rattle.ringside.specs.Meaning.{stream-of}
+use Rattle.samples.specs.HeldStream.{stream-of}
 use Rattle.samples.specs.Samples.{streams-length, read-near}
 use Rattle.envelope.specs.Walks.{inside-from, inside-more, inside-end}
 use Rattle.envelope.proofs.cover.inside.Statement.{statement}

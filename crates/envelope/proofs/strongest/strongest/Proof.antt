@@ -20,7 +20,7 @@ use Rattle.samples.specs.Positions.{Near, Sampled}
 use Rattle.samples.specs.Samples.{streams-length, read-near}
 use Rattle.samples.specs.Tests.{tested-of, then-answer, answer-by, refuses, passes}
 use Rattle.samples.specs.declared.tests.Tested.{Tested}
-use Rattle.ringside.specs.Words.{read}
+use Rattle.samples.specs.StreamWords.{read}
 use Rattle.envelope.specs.Tests.{stream-tests, stream-passed}
 use Rattle.envelope.specs.Firsts.{First, stronger}
 use Rattle.envelope.specs.Strongest.{greatest, first-strongest}

@@ -8,7 +8,7 @@ use native.Mathlib.Omega.{arith}
 use lib.ListN.{length}
 use borrow.Author.Tests.{not-true, not-false}
 use Rattle.rules.specs.Streams.{Stream, streams}
-use Rattle.neighbours.specs.Test.{turns, closes}
+use Rattle.laws_neighbours.specs.Test.{turns, closes}
 use Rattle.samples.specs.Samples.{streams-length, read-near}
 use Rattle.envelope.specs.Walks.{round-from, round-more, round-end}
 use Rattle.envelope.proofs.test.goes_round.Statement.{statement}

@@ -11,9 +11,9 @@ use borrow.Author.Needs.{needs}
 use Rattle.rules.specs.Streams.{Stream, streams, sample}
 use Rattle.rules.specs.Chain.{leftmost}
 use Rattle.rules.specs.Use.{envelope}
-use Rattle.neighbours.specs.Recognised.{recognised}
+use Rattle.laws_neighbours.specs.Recognised.{recognised}
 use Rattle.samples.specs.Samples.{streams-length, read-near}
-use Rattle.ringside.specs.Words.{read, held}
+use Rattle.samples.specs.StreamWords.{read, held}
 use Rattle.envelope.specs.Walks.{round-from, few-pass, two-pass, more-pass}
 use Rattle.envelope.proofs.test.is_envelope.Statement.{statement}
 use Rattle.envelope.proofs.test.is_envelope.Tie as tie

@@ -11,7 +11,7 @@ use Rattle.rules.specs.Refusals.{ring-tests, single-beyond, not-envelope}
 use Rattle.samples.specs.Tests.{tested-of, then-tested, tested-by, passed-tests, sampled-few}
 use Rattle.samples.specs.declared.tests.Tested.{Tested}
 use Rattle.samples.specs.declared.tests.Tested.the-variants.{Passed, Refused}
-use Rattle.ringside.specs.Meaning.{stream-of}
+use Rattle.samples.specs.HeldStream.{stream-of}
 use Rattle.envelope.specs.Tests.{stream-tests}
 use Rattle.envelope.proofs.test.of_ring_and_stream.Statement.{statement}
 use Rattle.envelope.proofs.test.of_ring_and_stream.Tie as tie

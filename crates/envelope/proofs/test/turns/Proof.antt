@@ -6,9 +6,9 @@ use lib.IntN.{pos}
 use lib.Signed.{ltZ}
 use borrow.Author.Needs.{needs}
 use Rattle.rules.specs.Streams.{side}
-use Rattle.neighbours.specs.Test.{turns}
-use Rattle.ringside.specs.Meaning.{stream-of}
-use Rattle.ringside.specs.Words.{held}
+use Rattle.laws_neighbours.specs.Test.{turns}
+use Rattle.samples.specs.HeldStream.{stream-of}
+use Rattle.samples.specs.StreamWords.{held}
 use Rattle.envelope.proofs.test.turns.Statement.{statement}
 use Rattle.envelope.proofs.test.turns.Tie as tie
 

@@ -2,7 +2,7 @@
 -- Assumes nothing.
 use mathlib.Core.Path.{ap, sym, _∙_}
 use borrow.Author.Needs.{needs}
-use Rattle.door.specs.Meaning.{part-as}
+use Rattle.door.specs.DoorAnswers.{part-as}
 use Rattle.exports.specs.Doors.{part-face}
 use Rattle.exports.proofs.doors.nuoskelma_part.Statement.{statement}
 use Rattle.exports.proofs.doors.nuoskelma_part.Tie as tie

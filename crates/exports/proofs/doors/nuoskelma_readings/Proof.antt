@@ -2,7 +2,7 @@
 -- Assumes nothing.
 use mathlib.Core.Path.{ap, sym, _∙_}
 use borrow.Author.Needs.{needs}
-use Rattle.door.specs.Meaning.{door-as}
+use Rattle.door.specs.DoorAnswers.{door-as}
 use Rattle.exports.specs.Doors.{readings-face}
 use Rattle.exports.proofs.doors.nuoskelma_readings.Statement.{statement}
 use Rattle.exports.proofs.doors.nuoskelma_readings.Tie as tie

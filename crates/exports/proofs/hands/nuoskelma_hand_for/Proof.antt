@@ -2,7 +2,7 @@
 -- Assumes nothing.
 use mathlib.Core.Path.{ap, sym, _∙_}
 use borrow.Author.Needs.{needs}
-use Rattle.hand.specs.Meaning.{made-as}
+use Rattle.hand.specs.HandAnswers.{made-as}
 use Rattle.exports.specs.Hands.{made-face}
 use Rattle.exports.proofs.hands.nuoskelma_hand_for.Statement.{statement}
 use Rattle.exports.proofs.hands.nuoskelma_hand_for.Tie as tie

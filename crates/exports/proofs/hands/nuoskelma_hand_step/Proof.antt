@@ -2,7 +2,7 @@
 -- Assumes nothing.
 use mathlib.Core.Path.{ap, ap₂, sym, _∙_}
 use borrow.Author.Needs.{needs}
-use Rattle.hand.specs.Meaning.{edge-as}
+use Rattle.hand.specs.HandAnswers.{edge-as}
 use Rattle.exports.specs.Hands.{hand-back, edge-face}
 use Rattle.exports.proofs.hands.nuoskelma_hand_step.Statement.{statement}
 use Rattle.exports.proofs.hands.nuoskelma_hand_step.Tie as tie

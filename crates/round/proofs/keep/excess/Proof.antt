@@ -2,7 +2,7 @@
 use mir.Syntax.{w64}
 use Rattle.whole.specs.Solver.{Ex, var, _⊖_, _⊗_}
 use Rattle.whole.specs.Fits.{step-fits, word-is}
-use Rattle.round.proofs.Words.{excess-leaves}
+use Rattle.round.proofs.RoundWords.{excess-leaves}
 use Rattle.round.proofs.keep.excess.Statement.{statement}
 use Rattle.round.proofs.keep.excess.Tie as tie
 

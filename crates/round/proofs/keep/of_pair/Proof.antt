@@ -18,7 +18,7 @@ use Rattle.samples.specs.Positions.{Near, at, place}
 use Rattle.samples.specs.Samples.{near-at}
 use Rattle.round.specs.Keeping.{excess, chosen}
 use Rattle.round.proofs.Choosing.{away, slanted-pair, upright-pair}
-use Rattle.round.proofs.Words.{two-leaves, word-of}
+use Rattle.round.proofs.RoundWords.{two-leaves, word-of}
 use Rattle.round.proofs.keep.of_pair.Statement.{statement}
 use Rattle.round.proofs.keep.of_pair.Tie as tie
 

@@ -5,7 +5,7 @@ use lib.Signed.{ltZ}
 use mir.Syntax.{w64}
 use mir.Val.{toZ, ofZ}
 use mir.Facts.{toZ-ofZ}
-use Rattle.round.proofs.Words.{word-of}
+use Rattle.round.proofs.RoundWords.{word-of}
 use Rattle.round.proofs.tops.better.Statement.{statement}
 use Rattle.round.proofs.tops.better.Tie as tie
 

@@ -17,7 +17,7 @@ use Rattle.samples.specs.Positions.{at}
 use Rattle.samples.specs.Samples.{listed-at, near-at}
 use Rattle.round.specs.Tops.{slope-by, key}
 use Rattle.round.proofs.Topping.{Leads, leads-first, leads-more, leads-all, left-greater, right-greater}
-use Rattle.round.proofs.Words.{word-of, slope-leaf, times, scaled-words, scaled-is, scaled-near}
+use Rattle.round.proofs.RoundWords.{word-of, slope-leaf, times, scaled-words, scaled-is, scaled-near}
 use Rattle.round.proofs.tops.of_list.Statement.{statement}
 use Rattle.round.proofs.tops.of_list.Tie as tie
 

@@ -2,7 +2,7 @@
 use mir.Syntax.{w64}
 use Rattle.whole.specs.Solver.{var, _⊗_}
 use Rattle.whole.specs.Fits.{step-fits, word-is}
-use Rattle.slopes.proofs.Words.{cross-leaves}
+use Rattle.slopes.proofs.SlopeWords.{cross-leaves}
 use Rattle.slopes.proofs.fraction.cross.Statement.{statement}
 use Rattle.slopes.proofs.fraction.cross.Tie as tie
 

@@ -6,7 +6,7 @@ use lib.Signed.{ltZ}
 use mir.Syntax.{w64}
 use mir.Facts.{toZ-ofZ}
 use Rattle.rules.specs.Round.{slope-le}
-use Rattle.ranks.specs.Numbers.{whole-under}
+use Rattle.laws_ranks.specs.Numbers.{whole-under}
 use Rattle.slopes.proofs.fraction.less.Statement.{statement}
 use Rattle.slopes.proofs.fraction.less.Tie as tie
 

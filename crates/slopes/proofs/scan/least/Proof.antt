@@ -7,7 +7,7 @@ use native.Mathlib.Omega.{arith}
 use borrow.Author.Needs.{needs}
 use lib.ListN.{getD}
 use Rattle.rules.specs.Round.{Slope, slope-le}
-use Rattle.ranks.specs.Ranks.{under}
+use Rattle.laws_ranks.specs.Ranks.{under}
 use Rattle.slopes.specs.declared.fraction.Fraction.{Fraction}
 use Rattle.slopes.specs.Fractions.{put}
 use Rattle.slopes.specs.Passes.{Lifted}

@@ -3,7 +3,7 @@ use mathlib.Core.Path.{_∙_}
 use borrow.Author.Needs.{sfits-of}
 use Rattle.samples.specs.Positions.{place}
 use Rattle.step.specs.Ends.{nearer-west, nearer-east, nearer-level}
-use Rattle.step.proofs.Words.{word-less, tells}
+use Rattle.step.proofs.SignedWords.{word-less, tells}
 use Rattle.step.proofs.ends.nearer.Statement.{statement}
 use Rattle.step.proofs.ends.nearer.Tie as tie
 

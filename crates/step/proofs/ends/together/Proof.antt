@@ -5,7 +5,7 @@ use borrow.Author.Needs.{needs, sfits-of}
 use Rattle.whole.specs.Laws.{eqZ, eq-test}
 use Rattle.rules.specs.Streams.{same}
 use Rattle.samples.specs.Positions.{at, place}
-use Rattle.step.proofs.Words.{bits-differ, bits-equal, bits-tell}
+use Rattle.step.proofs.SignedWords.{bits-differ, bits-equal, bits-tell}
 use Rattle.step.proofs.ends.together.Statement.{statement}
 use Rattle.step.proofs.ends.together.Tie as tie
 

@@ -1,5 +1,5 @@
 -- `step::lists::between` meets its contract. Assumes nothing.
-use Rattle.step.proofs.Words.{word-less, tells}
+use Rattle.step.proofs.SignedWords.{word-less, tells}
 use Rattle.step.proofs.lists.between.Statement.{statement}
 use Rattle.step.proofs.lists.between.Tie as tie
 

@@ -9,7 +9,7 @@ use lib.IntN.{ℤ}
 use lib.ListN.{length, take, set, length-set}
 use lib.Seq.{take-set-le, length-take-le}
 use Rattle.samples.specs.Positions.{Listed, east-of}
-use Rattle.step.specs.Lists.{past, Passed}
+use Rattle.step.specs.NumberLists.{past, Passed}
 use Rattle.step.proofs.Passing.{one-then}
 use Rattle.step.proofs.lists.beyond.Statement.{statement}
 use Rattle.step.proofs.lists.beyond.Tie as tie

@@ -5,9 +5,9 @@ use borrow.Author.Needs.{needs, sfits-of}
 use mir.Facts.{toZ-ofZ}
 use lib.IntN.{ℤ}
 use lib.ListN.{length, set, length-set}
-use Rattle.rounds.specs.WholeList.{numbers, numbers-length}
+use Rattle.laws_rounds.specs.WholeList.{numbers, numbers-length}
 use Rattle.samples.specs.Positions.{east-of}
-use Rattle.step.specs.Lists.{between, Passed}
+use Rattle.step.specs.NumberLists.{between, Passed}
 use Rattle.step.proofs.Passing.{two-then}
 use Rattle.step.proofs.lists.first.Statement.{statement}
 use Rattle.step.proofs.lists.first.Tie as tie

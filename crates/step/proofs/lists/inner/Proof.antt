@@ -10,10 +10,10 @@ use lib.ListN.{length}
 use mir.Syntax.{w64}
 use mir.Val.{toZ}
 use mir.Facts.{toZ-ofZ}
-use Rattle.rounds.specs.WholeList.{numbers, numbers-length, numbers-at}
+use Rattle.laws_rounds.specs.WholeList.{numbers, numbers-length, numbers-at}
 use Rattle.samples.specs.Positions.{east-of}
-use Rattle.step.specs.Lists.{between, Passed}
-use Rattle.step.proofs.Words.{word}
+use Rattle.step.specs.NumberLists.{between, Passed}
+use Rattle.step.proofs.SignedWords.{word}
 use Rattle.step.proofs.Passing.{Passing, passing-none, passing-more, passing-all}
 use Rattle.step.proofs.lists.inner.Statement.{statement}
 use Rattle.step.proofs.lists.inner.Tie as tie

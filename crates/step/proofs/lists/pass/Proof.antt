@@ -13,8 +13,8 @@ use mir.Val.{toZ}
 use mir.Facts.{toZ-ofZ}
 use Rattle.samples.specs.Positions.{east-of}
 use Rattle.samples.specs.Samples.{listed-at}
-use Rattle.step.specs.Lists.{past, Passed}
-use Rattle.step.proofs.Words.{word}
+use Rattle.step.specs.NumberLists.{past, Passed}
+use Rattle.step.proofs.SignedWords.{word}
 use Rattle.step.proofs.Passing.{Passing, passing-none, passing-more, passing-item, passing-all}
 use Rattle.step.proofs.lists.pass.Statement.{statement}
 use Rattle.step.proofs.lists.pass.Tie as tie

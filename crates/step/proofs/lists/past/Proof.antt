@@ -1,5 +1,5 @@
 -- `step::lists::past` meets its contract. Assumes nothing.
-use Rattle.step.proofs.Words.{word-less}
+use Rattle.step.proofs.SignedWords.{word-less}
 use Rattle.step.proofs.lists.past.Statement.{statement}
 use Rattle.step.proofs.lists.past.Tie as tie
 

@@ -11,7 +11,7 @@ use Rattle.whole.specs.Fits.{cast-read}
 use Rattle.rules.specs.Streams.{Stream}
 use Rattle.rules.specs.Program.{newline, cut-at}
 use Rattle.text.specs.Cuts.{is, first-place-within, cut-at-end, cut-nowhere}
-use Rattle.text.specs.Meaning.{line-as, next-line, before-rest}
+use Rattle.text.specs.TextAnswers.{line-as, next-line, before-rest}
 use Rattle.text.proofs.reading.line_at.Statement.{statement}
 use Rattle.text.proofs.reading.line_at.Tie as tie
 

@@ -10,7 +10,7 @@ use mir.Syntax.{w32}
 use Rattle.whole.specs.Solver.{var, ⊝_}
 use Rattle.whole.specs.Fits.{Within, []ʷ, _∷ʷ_, step-fits, word-is}
 use Rattle.rules.specs.Program.{negated}
-use Rattle.text.specs.Meaning.{Small}
+use Rattle.text.specs.TextAnswers.{Small}
 use Rattle.text.proofs.reading.negated.Statement.{statement}
 use Rattle.text.proofs.reading.negated.Tie as tie
 

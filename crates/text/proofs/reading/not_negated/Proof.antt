@@ -7,7 +7,7 @@ use native.Mathlib.Omega.{arith}
 use borrow.Author.Needs.{needs}
 use mir.Syntax.{w32}
 use mir.Facts.{toZ-pos}
-use Rattle.text.specs.Meaning.{Small}
+use Rattle.text.specs.TextAnswers.{Small}
 use Rattle.text.proofs.reading.not_negated.Statement.{statement}
 use Rattle.text.proofs.reading.not_negated.Tie as tie
 

@@ -10,11 +10,11 @@ use Rattle.walk.proofs.chain.chain.Statement.{statement}
 use Rattle.walk.proofs.chain.chain.Tie as tie
 
 abbrev Inv-loop : tie.InvT-loop
-Inv-loop east north east2 north2 up w₀ n a₀ b₀ c₀ d₀ top₀ i₀ w a b c d top i =
-    (length w ≡ length w₀) × Walking east north east2 north2 up w a b c d top i
+Inv-loop east north east2 north2 lower w₀ n a₀ b₀ c₀ d₀ top₀ i₀ w a b c d top i =
+    (length w ≡ length w₀) × Walking east north east2 north2 lower w a b c d top i
 
 abbrev μ-loop : tie.MeasureT-loop
-μ-loop east north east2 north2 up w₀ n a₀ b₀ c₀ d₀ top₀ i₀ w a b c d top i = n - i
+μ-loop east north east2 north2 lower w₀ n a₀ b₀ c₀ d₀ top₀ i₀ w a b c d top i = n - i
 
 loop-holds : tie.Need-loop-holds Inv-loop μ-loop
 loop-holds c = (refl, walking-start)

@@ -8,9 +8,9 @@ use borrow.Author.Needs.{needs}
 use borrow.Author.Tests.{not-true, not-false}
 use native.Mathlib.Omega.{arith}
 use Rattle.whole.specs.Laws.{≤ℤ-antisym}
-use Rattle.ringside.specs.Meaning.{stream-of}
-use Rattle.stack.specs.Stack.{before-all}
-use Rattle.walk.specs.Words.{east-of, north-of, told-less, told-not-less}
+use Rattle.samples.specs.HeldStream.{stream-of}
+use Rattle.laws_stack.specs.Stack.{before-all}
+use Rattle.walk.specs.StreamTests.{east-of, north-of, told-less, told-not-less}
 use Rattle.walk.proofs.chain.hides.Statement.{statement}
 use Rattle.walk.proofs.chain.hides.Tie as tie
 

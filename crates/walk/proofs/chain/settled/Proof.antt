@@ -7,20 +7,20 @@ use Prim.Native.Nat.{ℕ, _≤_, _<_, _-_}
 use borrow.Author.Tests.{not-true, not-false}
 use native.Mathlib.Omega.{arith}
 use denote.Ref.{now}
-use Rattle.outline.specs.Under.{Under, on-self}
-use Rattle.ringside.specs.Meaning.{stream-of}
-use Rattle.stack.specs.Stack.{With, Upto, stays, stays-some, stacked-less, one-fewer}
+use Rattle.laws_outline.specs.Under.{Under, on-self}
+use Rattle.samples.specs.HeldStream.{stream-of}
+use Rattle.laws_stack.specs.Stack.{With, Upto, stays, stays-some, stacked-less, one-fewer}
 use Rattle.walk.specs.Both.{listed-at}
 use Rattle.walk.proofs.chain.settled.Statement.{statement}
 use Rattle.walk.proofs.chain.settled.Tie as tie
 
 abbrev Inv-loop : tie.InvT-loop
-Inv-loop east north east2 north2 up w top s t₀ t =
-    let f = listed-at east north east2 north2 up w in
+Inv-loop east north east2 north2 lower w top s t₀ t =
+    let f = listed-at east north east2 north2 lower w in
     (t ≤ top) × ((i : ℕ) → i < top → Under (With (Upto f t) (stream-of s)) (f i))
 
 abbrev μ-loop : tie.MeasureT-loop
-μ-loop east north east2 north2 up w top s t₀ t = t
+μ-loop east north east2 north2 lower w top s t₀ t = t
 
 loop-holds : tie.Need-loop-holds Inv-loop μ-loop
 loop-holds c = ((omega arith), λ i l. on-self (inl (i, l, refl)))
@@ -32,7 +32,7 @@ stays-requires c κs =
 
 -- the topmost corner does not stay, so there is one
 gone : (c : tie.Then1 Inv-loop μ-loop) → let a = c .before .before .before .before .args in
-    stays (listed-at (now (a .east)) (now (a .north)) (now (a .east2)) (now (a .north2)) (a .up) (now (a .w))) (c .before .before .loop .t) (stream-of (a .s)) ≡ false
+    stays (listed-at (now (a .east)) (now (a .north)) (now (a .east2)) (now (a .north2)) (a .lower) (now (a .w))) (c .before .before .loop .t) (stream-of (a .s)) ≡ false
 gone c = sym (c .before .stays .ensures) ∙ not-true _ (c .if1 .taken)
 
 some : (c : tie.Then1 Inv-loop μ-loop) → 1 ≤ c .before .before .loop .t

@@ -10,8 +10,8 @@ use lib.ListN.{getD}
 use denote.Ref.{now}
 use Rattle.rules.specs.Streams.{Stream, side}
 use Rattle.samples.specs.Positions.{Near}
-use Rattle.ringside.specs.Meaning.{stream-of}
-use Rattle.stack.specs.Stack.{stays, stays-one, stays-more}
+use Rattle.samples.specs.HeldStream.{stream-of}
+use Rattle.laws_stack.specs.Stack.{stays, stays-one, stays-more}
 use Rattle.walk.specs.Both.{listed-at}
 use Rattle.walk.specs.Places.{corner-near}
 use Rattle.walk.proofs.chain.stays.Statement.{statement}
@@ -29,7 +29,7 @@ returns-2 c =
     let a = c .before .before .before .before .before .args in
     c .west .ensures
     ∙ ap (λ (q : Stream). ltZ (q .east) (a .s .east)) (c .before .before .listed .ensures)
-    ∙ sym (stays-one (listed-at (now (a .east)) (now (a .north)) (now (a .east2)) (now (a .north2)) (a .up) (now (a .w))) (a .top) (stream-of (a .s)) (c .before .if2 .taken))
+    ∙ sym (stays-one (listed-at (now (a .east)) (now (a .north)) (now (a .east2)) (now (a .north2)) (a .lower) (now (a .w))) (a .top) (stream-of (a .s)) (c .before .if2 .taken))
 
 listed-requires-2 : tie.Need-listed-requires-2
 listed-requires-2 c κs = let p = c .before .before .before .before .pre in (p .0, (omega arith), p .1 .below (c .before .before .before .before .args .top - 2) (omega arith))
@@ -39,8 +39,8 @@ strictly-right-requires c κs =
     let at = c .before .before .before .before .before in
     let a = at .args in
     let pre = at .pre in
-    let p = subst Near (sym (c .listed2 .ensures)) (corner-near (pre .0) (a .up) (getD (now (a .w)) (a .top - 2) 0)) in
-    let q = subst Near (sym (c .before .before .listed .ensures)) (corner-near (pre .0) (a .up) (getD (now (a .w)) (a .top - 1) 0)) in
+    let p = subst Near (sym (c .listed2 .ensures)) (corner-near (pre .0) (a .lower) (getD (now (a .w)) (a .top - 2) 0)) in
+    let q = subst Near (sym (c .before .before .listed .ensures)) (corner-near (pre .0) (a .lower) (getD (now (a .w)) (a .top - 1) 0)) in
     (p, q, pre .2)
 
 returns-3 : tie.Need-returns-3
@@ -48,7 +48,7 @@ returns-3 c =
     let a = c .before .before .before .before .before .before .args in
     c .strictly-right .ensures
     ∙ ap₂ (λ (p q : Stream). ltZ (side p q (stream-of (a .s))) (pos 0)) (c .before .listed2 .ensures) (c .before .before .before .listed .ensures)
-    ∙ sym (stays-more (listed-at (now (a .east)) (now (a .north)) (now (a .east2)) (now (a .north2)) (a .up) (now (a .w))) (a .top) (stream-of (a .s)) (omega arith))
+    ∙ sym (stays-more (listed-at (now (a .east)) (now (a .north)) (now (a .east2)) (now (a .north2)) (a .lower) (now (a .w))) (a .top) (stream-of (a .s)) (omega arith))
 
 pub stays-spec : {M : Type 1} → statement M
 stays-spec =

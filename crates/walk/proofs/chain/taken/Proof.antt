@@ -19,7 +19,7 @@ hides-requires c κs =
     let a = at .args in (
       at .pre .0,
       at .pre .2,
-      subst (Next (listed-at (now (a .east)) (now (a .north)) (now (a .east2)) (now (a .north2)) (a .up) (now (a .w))) (a .top)) (sym (c .before .seen .ensures)) (at .pre .4),
+      subst (Next (listed-at (now (a .east)) (now (a .north)) (now (a .east2)) (now (a .north2)) (a .lower) (now (a .w))) (a .top)) (sym (c .before .seen .ensures)) (at .pre .4),
     )
 
 returns : tie.Need-returns
@@ -30,7 +30,7 @@ settled-requires c κs =
     let at = c .before .before .before .before .before .before in (
       at .pre .0,
       at .pre .2,
-      subst Near (sym (c .before .before .before .before .seen .ensures)) (corner-near (at .pre .0) (at .args .up) (at .args .k)),
+      subst Near (sym (c .before .before .before .before .seen .ensures)) (corner-near (at .pre .0) (at .args .lower) (at .args .k)),
       record { stacked = at .pre .4 .stacked; before = c .before .before .hides .ensures .passes (c .before .if1 .left) },
     )
 

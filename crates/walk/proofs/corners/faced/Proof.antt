@@ -6,20 +6,20 @@ use mir.Facts.{toZ-ofZ}
 use Rattle.whole.specs.Solver.{var, ⊝_}
 use Rattle.whole.specs.Fits.{[]ʷ, _∷ʷ_, step-fits, word-is}
 use Rattle.rules.specs.Streams.{stream}
-use Rattle.ringside.specs.Words.{near-fits}
+use Rattle.samples.specs.StreamWords.{near-fits}
 use Rattle.walk.proofs.corners.faced.Statement.{statement}
 use Rattle.walk.proofs.corners.faced.Tie as tie
-
-returns : tie.Need-returns
-returns c = rw (c .if1 .taken) refl
 
 sub-t4 : tie.Need-sub-t4
 sub-t4 c = step-fits w32 (c .before .before .before .pre .north-near ∷ʷ []ʷ) (⊝ var 0) tt
 
-returns-2 : tie.Need-returns-2
-returns-2 c = rw (c .before .before .before .if1 .left)
+returns : tie.Need-returns
+returns c = rw (c .before .before .before .if1 .taken)
     (ap₂ stream (toZ-ofZ (near-fits (c .before .before .before .before .pre .east-near)))
     (word-is w32 (c .before .before .before .before .pre .north-near ∷ʷ []ʷ) (⊝ var 0) tt))
 
+returns-2 : tie.Need-returns-2
+returns-2 c = rw (c .if1 .left) refl
+
 pub faced-spec : {M : Type 1} → statement M
-faced-spec = tie.close (tie.spec returns sub-t4 returns-2)
+faced-spec = tie.close (tie.spec sub-t4 returns returns-2)

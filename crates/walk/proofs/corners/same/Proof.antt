@@ -7,8 +7,8 @@ use borrow.Author.Tests.{eq-eqb, ne-eqb}
 use mir.Syntax.{w32}
 use mir.Val.{ofZ}
 use Rattle.rules.specs.Streams.{eqZ, same}
-use Rattle.ringside.specs.declared.Stream.{Stream}
-use Rattle.walk.specs.Words.{words-equal}
+use Rattle.samples.specs.declared.streams.Stream.{Stream}
+use Rattle.walk.specs.StreamTests.{words-equal}
 use Rattle.walk.proofs.corners.same.Statement.{statement}
 use Rattle.walk.proofs.corners.same.Tie as tie
 

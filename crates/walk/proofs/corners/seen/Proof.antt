@@ -11,7 +11,7 @@ faced-requires : tie.Need-faced-requires
 faced-requires c κs = subst Near (sym (c .corner .ensures)) (c .before .pre .0 .near (c .before .args .k))
 
 returns : tie.Need-returns
-returns c = c .faced .ensures ∙ ap (facing (c .before .before .args .up)) (c .before .corner .ensures)
+returns c = c .faced .ensures ∙ ap (facing (c .before .before .args .lower)) (c .before .corner .ensures)
 
 pub seen-spec : {M : Type 1} → statement M
 seen-spec = tie.close (tie.spec (λ c κs. search needs) faced-requires returns)

@@ -3,8 +3,8 @@
 use borrow.Author.Needs.{needs}
 use native.Mathlib.Omega.{arith}
 use Rattle.whole.specs.Laws.{<ℤ→≤ℤ}
-use Rattle.stack.specs.Walk.{westmost-one, westmost-other, westmost-one-left, westmost-other-left}
-use Rattle.walk.specs.Words.{east-of, told-less, told-not-less}
+use Rattle.laws_stack.specs.DrawnWalk.{westmost-one, westmost-other, westmost-one-left, westmost-other-left}
+use Rattle.walk.specs.StreamTests.{east-of, told-less, told-not-less}
 use Rattle.walk.proofs.draw.draw.Statement.{statement}
 use Rattle.walk.proofs.draw.draw.Tie as tie
 

@@ -6,7 +6,7 @@ use Prim.Native.Nat.{suc}
 use borrow.Author.Needs.{needs}
 use native.Mathlib.Numerals.{add-one}
 use native.Mathlib.Omega.{arith}
-use Rattle.stack.specs.Walk.{took-first, took-last, draws-one}
+use Rattle.laws_stack.specs.DrawnWalk.{took-first, took-last, draws-one}
 use Rattle.walk.proofs.draw.from_first.Statement.{statement}
 use Rattle.walk.proofs.draw.from_first.Tie as tie
 

@@ -5,8 +5,8 @@ use mathlib.Core.Path.{refl}
 use borrow.Author.Needs.{needs}
 use native.Mathlib.Omega.{arith}
 use Rattle.whole.specs.Laws.{<ℤ→≤ℤ}
-use Rattle.stack.specs.Walk.{westmost-first, westmost-last}
-use Rattle.walk.specs.Words.{east-of, told-less, told-not-less}
+use Rattle.laws_stack.specs.DrawnWalk.{westmost-first, westmost-last}
+use Rattle.walk.specs.StreamTests.{east-of, told-less, told-not-less}
 use Rattle.walk.proofs.draw.west_end.Statement.{statement}
 use Rattle.walk.proofs.draw.west_end.Tie as tie
 

@@ -1,0 +1,11 @@
+pub mod ListLaws
+pub mod TwoKeys
+pub mod SamePosition
+pub mod Sidedness
+pub mod Under
+pub mod Chains
+pub mod SameOutline
+pub mod Numbers
+pub mod Bridges
+pub mod Prefix
+pub mod Steps

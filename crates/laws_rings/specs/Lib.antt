@@ -1,0 +1,9 @@
+pub mod Reversed
+pub mod Mirror
+pub mod Rings
+pub mod Lines
+pub mod Joins
+pub mod Turning
+pub mod Strongest
+pub mod Covering
+pub mod Cycle

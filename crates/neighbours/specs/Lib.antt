@@ -1,6 +1,0 @@
-pub mod Test
-pub mod Local
-pub mod Global
-pub mod Split
-pub mod Walk
-pub mod Recognised

@@ -1,9 +1,0 @@
-pub mod Lists
-pub mod Mirror
-pub mod Rings
-pub mod Lines
-pub mod Joins
-pub mod Turning
-pub mod Strongest
-pub mod Covering
-pub mod Cycle

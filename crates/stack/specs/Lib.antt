@@ -1,5 +1,0 @@
-pub mod Places
-pub mod Stack
-pub mod Hills
-pub mod Walk
-pub mod Closing
