@@ -1,5 +1,5 @@
 -- A chain kept on a stack. Samples come from west to east; each takes away the topmost corners at which the way on to it does not turn strictly right,
--- and is put on top. What stays is the upper chain of all that came.
+-- and is put on top. What stays is the upper chain of all that came. The taking away is Graham's scan.
 -- Assumes nothing.
 use mathlib.Core.Path.{_≡_, refl, sym, ap, ap₂, _∙_, subst}
 use mathlib.Core.Logic.{_⊎_, inl, inr, ⊎-elim}

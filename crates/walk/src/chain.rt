@@ -1,5 +1,5 @@
 // The chain of both rings' corners, or of the corners mirrored, by a stack. Each corner, as it is drawn, takes away the topmost corners at which the way
-// on to it does not turn strictly right, and is put on top.
+// on to it does not turn strictly right, and is put on top. This is Andrew's chain, over corners that need no sorting.
 
 ghost use mathlib.Core.Path.{_≡_};
 ghost use Prim.Native.Nat.{_≤_, _<_};
