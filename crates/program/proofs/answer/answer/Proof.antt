@@ -17,41 +17,57 @@ use Rattle.program.specs.Answer.{text-refused, text-told, text-count}
 use Rattle.program.proofs.answer.answer.Statement.{statement}
 use Rattle.program.proofs.answer.answer.Tie as tie
 
+-- the places that follow one another in the code, each from the next: the text is read, the answer is told apart, the samples are counted
+abbrev start : tie.After-samples → tie.Start
+start c = c .before .before .before .before
+
+abbrev read : tie.After-north2 → tie.After-samples
+read c = c .before .before
+
+abbrev read-refused : tie.After-number → tie.After-samples
+read-refused c = read (c .before .before)
+
+abbrev read-done : tie.After-count → tie.After-samples
+read-done c = read (c .before .before)
+
+abbrev counted : tie.After-print-ring-of-arg → tie.After-count
+counted c = c .before .before .before .before
+
 -- the lists as they are lent
 abbrev zeros : List ℤ
 zeros = replicate 512 (pos 0)
 
 -- a refusal is the rules'
 refusal : (c : tie.After-number) →
-    let bs = now (c .before .before .before .before .before .before .before .before .args .text) in
+    let bs = now (start (read-refused c) .args .text) in
     samples bs ≡ refused (c .number .given .0 .0) (c .number .given .0 .1 .0)
 refusal c =
-    let read = c .before .before .before .before in
-    text-refused (now (read .before .before .before .before .args .text)) zeros (read .samples .last .1 .0) zeros (read .samples .last .1 .1 .0) (omega arith) (omega arith)
-    (read .samples .result) (read .samples .ensures .0) (c .number .given .0 .0) (c .number .given .0 .1 .0) (c .number .given .1)
+    let r = read-refused c in
+    text-refused (now (start r .args .text)) zeros (r .samples .last .1 .0) zeros (r .samples .last .1 .1 .0) (omega arith) (omega arith)
+    (r .samples .result) (r .samples .ensures .0) (c .number .given .0 .0) (c .number .given .0 .1 .0) (c .number .given .1)
 
 all : (c : tie.After-count) →
-    let read = c .before .before .before .before in
-    Told (samples (now (read .before .before .before .before .args .text))) (c .count .given .0 .0) (read .samples .last .1 .0) (read .samples .last .1 .1 .0)
+    let r = read-done c in
+    Told (samples (now (start r .args .text))) (c .count .given .0 .0) (r .samples .last .1 .0) (r .samples .last .1 .1 .0)
 all c =
-    let read = c .before .before .before .before in
-    let e = read .samples .ensures in
-    text-told (now (read .before .before .before .before .args .text)) zeros (read .samples .last .1 .0) zeros (read .samples .last .1 .1 .0) (omega arith) (omega arith)
-    (read .samples .result) (e .0) (e .1 .0) (e .1 .1) (c .count .given .0 .0) (c .count .given .1)
+    let r = read-done c in
+    let e = r .samples .ensures in
+    text-told (now (start r .args .text)) zeros (r .samples .last .1 .0) zeros (r .samples .last .1 .1 .0) (omega arith) (omega arith)
+    (r .samples .result) (e .0) (e .1 .0) (e .1 .1) (c .count .given .0 .0) (c .count .given .1)
 
 few : (c : tie.After-count) → c .count .given .0 .0 ≤ 512
-few c = text-count (now (c .before .before .before .before .before .before .before .before .args .text)) (all c)
+few c = text-count (now (start (read-done c) .args .text)) (all c)
 
 -- what is at the front of the lists are the text's samples
 answered : (c : tie.After-count) →
-    let read = c .before .before .before .before in
+    let r = read-done c in
     let m = c .count .given .0 .0 in
-    done (streams (take m (read .samples .last .1 .0)) (take m (read .samples .last .1 .1 .0))) ≡ samples (now (read .before .before .before .before .args .text))
+    done (streams (take m (r .samples .last .1 .0)) (take m (r .samples .last .1 .1 .0))) ≡ samples (now (start r .args .text))
 answered c = ap done (all c .parts) ∙ sym (all c .is-done)
 
 print-ring-of-requires : tie.Need-print-ring-of-requires
 print-ring-of-requires c κs =
-    let at = c .before .before .before .before in
+    let at = counted c in
     (all at .east-length ∙ sym (all at .north-length), omega (arith, all at .east-length, few at))
 
 returns : tie.Need-returns
@@ -60,7 +76,7 @@ returns c = rw (refusal (c .before .before .before)) (c .print-refusal .ensures)
 
 returns-2 : tie.Need-returns-2
 unfolding program
-returns-2 c = rw (sym (answered (c .before .before .before .before .before))) (c .print-ring-of .ensures)
+returns-2 c = rw (sym (answered (counted (c .before)))) (c .print-ring-of .ensures)
 
 pub answer-spec : {M : Type 1} → statement M
 answer-spec =
