@@ -13,9 +13,16 @@ use Rattle.exports.proofs.chained.nuoskelma_chains.Tie as tie
 use Rattle.exports.proofs.chained.nuoskelma_chains.Reads as reads
 use Rattle.exports.proofs.chained.nuoskelma_chains.Lts as lts
 
+-- the places that follow one another in the code, each from the next: the chains are made, the lists that they lie in are given back
+abbrev start : lts.After-chains (entry.Asked, entry.Learnt) reads.Pre reads.Post → lts.Start (entry.Asked, entry.Learnt) reads.Pre reads.Post
+start c = c .before .before .before .before .before .before .before
+
+abbrev called : lts.After-slice-known6 (entry.Asked, entry.Learnt) reads.Pre reads.Post → lts.After-chains (entry.Asked, entry.Learnt) reads.Pre reads.Post
+called c = c .before .before .before .before .before .before
+
 abbrev answered : lts.After-chains (entry.Asked, entry.Learnt) reads.Pre reads.Post → Answer Chains
 answered c =
-    let g = c .before .before .before .before .before .before .before .args in
+    let g = start c .args in
     chains-answer (g .east .now) (g .north .now) (g .upper .now) (g .lower .now) (g .scratch .now)
 
 -- an answer's face, from what the answer counts
@@ -24,13 +31,13 @@ face c e = ap (λ (r : ChainsAnswer). counts-face (answer-as r)) (sym e) ∙ ap 
 
 returns : tie.Need-returns
 returns c =
-    let r = c .before .before .before .before .before .before .before .before .before in
+    let r = called (c .before .before .before) in
     let kept = r .chains .ensures in
     (face r (c .before .u .given .1), (kept .upper-is, (kept .lower-is, kept .scratch-is)))
 
 returns-2 : tie.Need-returns-2
 returns-2 c =
-    let r = c .before .before .before .before .before .before .before .before .before in
+    let r = called (c .before .before .before) in
     let kept = r .chains .ensures in
     (face r (c .before .number .given .1), (kept .upper-is, (kept .lower-is, kept .scratch-is)))
 
