@@ -23,6 +23,23 @@ use Rattle.bridge.proofs.Promising.{Ready, ready, reported, bridge-asks
 use Rattle.bridge.proofs.bridge.Statement.{statement}
 use Rattle.bridge.proofs.bridge.Tie as tie
 
+-- the places that follow one another in the code, each from the next: the tests are made, they are passed, the samples are numbered, the bridge is found, the
+-- scratch is cleared
+abbrev entry : tie.After-tested → tie.Start
+entry c = c .before .before
+
+abbrev tested : tie.After-enum-told → tie.After-tested
+tested c = c .before .before
+
+abbrev admitted : tie.After-number2 → tie.After-enum-told
+admitted c = c .before .before
+
+abbrev numbered : tie.After-bridge-of → tie.After-number2
+numbered c = c .before .before .before .before
+
+abbrev bridge-found : tie.After-clear → tie.After-bridge-of
+bridge-found c = c .before .before .before .before
+
 -- a as 64 bits
 a-is : (s : tie.Start) → toZ w64 (ofZ w64 (toZ w32 (ofZ w32 (s .args .a)))) ≡ s .args .a
 a-is s = word-is w64 (cast (s .fits .a) ∷ᶜ []ʷ) (var 0) tt
@@ -31,25 +48,26 @@ a-is s = word-is w64 (cast (s .fits .a) ∷ᶜ []ʷ) (var 0) tt
 abbrev given-tests : tie.Start → List Test
 given-tests s = bridge-tests (s .args .east .now) (s .args .north .now) (s .args .a) (length (s .args .scratch .now))
 
-tests-said : (c : tie.After-tested) → tested-of (given-tests (c .before .before)) ≡ c .tested .result
+tests-said : (c : tie.After-tested) → tested-of (given-tests (entry c)) ≡ c .tested .result
 tests-said c =
-    let s = c .before .before in
+    let s = entry c in
     let a = s .args in
     ap (λ (z : ℤ). tested-of (bridge-tests (a .east .now) (a .north .now) z (length (a .scratch .now)))) (sym (toZ-ofZ (s .fits .a)))
     ∙ sym (c .tested .ensures)
 
 returns : tie.Need-returns
 returns c =
-    let a = c .before .before .before .before .before .args in
-    refused-promise (a .east .now) (a .north .now) (a .a) (a .scratch .now) (tests-said (c .before .before .before) ∙ c .before .number .given .1)
+    let d = c .before .before .before in
+    let a = entry d .args in
+    refused-promise (a .east .now) (a .north .now) (a .a) (a .scratch .now) (tests-said d ∙ c .before .number .given .1)
 
 -- what is known where the tests are passed
 module _ (d : tie.After-enum-told) where
   abbrev start : tie.Start
-  start = d .before .before .before .before
+  start = entry (tested d)
 
   passed : tested-of (given-tests start) ≡ tests.Passed
-  passed = tests-said (d .before .before) ∙ d .enum-told .given .1
+  passed = tests-said (tested d) ∙ d .enum-told .given .1
 
   is-ready : Ready (start .args .east .now) (start .args .north .now) (start .args .a) (length (start .args .scratch .now))
   is-ready = let a = start .args in ready (a .east .now) (a .north .now) (a .a) (length (a .scratch .now)) passed
@@ -59,28 +77,31 @@ number-requires c κs = let r = is-ready (c .before) in let large = r .large in 
 
 bridge-of-requires : tie.Need-bridge-of-requires
 bridge-of-requires c κs =
-    let d = c .before .before .before .before .before in
+    let n = c .before .before .before in
+    let d = admitted n in
     let s = start d in
-    let o = c .before .before .before .number2 in
+    let o = n .number2 in
     let kept = o .kept .0 in
     subst (λ (z : ℤ). BridgeAsks (s .args .east .now) (s .args .north .now) false z (o .last .0) (length (s .args .east .now))) (sym (a-is s))
     (bridge-asks (s .args .east .now) (s .args .north .now) (s .args .a) (is-ready d) (o .ensures) (omega arith))
 
 returns-2 : tie.Need-returns-2
 returns-2 c =
-    let numbered = c .before .before .before .before .before .before .before .before .before .before in
-    let d = numbered .before .before in
+    let cleared = c .before .before in
+    let b = bridge-found cleared in
+    let n = numbered b in
+    let d = admitted n in
     let s = start d in
     let a = s .args in
-    let o = numbered .number2 in
-    let f = c .before .before .before .before .before .before .bridge-of in
+    let o = n .number2 in
+    let f = b .bridge-of in
     let places = at (a .east .now) (a .north .now) false in
     let over = subst₂ (λ (z : ℤ) (l : List ℕ). Found places z l (ends (f .result .left) (f .result .right))) (a-is s) (o .ensures) (f .ensures) in
     passed-promise (a .east .now) (a .north .now) (a .a) (a .scratch .now) (passed d)
     (reported (a .east .now) (a .north .now) (a .a) (is-ready d) over)
     (f .last .1 .1 .1 .1 .0)
     (f .kept .1 .1 .1 .1 .0 ∙ o .kept .0)
-    (c .before .before .clear .ensures)
+    (cleared .clear .ensures)
 
 pub bridge-spec : {M : Type 1} → statement M
 bridge-spec =
@@ -90,7 +111,7 @@ bridge-spec =
     (λ c. search needs)
     (λ c. search needs)
     number-requires
-    (λ c. step-fits w64 (cast (c .before .before .before .before .before .before .before .before .fits .a) ∷ᶜ []ʷ) (var 0) tt)
+    (λ c. step-fits w64 (cast (start (admitted (c .before .before)) .fits .a) ∷ᶜ []ʷ) (var 0) tt)
     bridge-of-requires
     (λ c κs. search needs)
     returns

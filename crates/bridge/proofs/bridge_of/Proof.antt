@@ -27,6 +27,16 @@ Inv-loop e n lower a w₀ count t₀ w t = Bridging (at e n lower) (toZ w64 a) (
 abbrev μ-loop : tie.MeasureT-loop
 μ-loop e n lower a w₀ count t₀ w t = t
 
+-- the places that follow one another in the code, each from the next: the loop is entered, a round is made in it, the round finds the bridge
+abbrev entry : tie.At-loop Inv-loop μ-loop → tie.Start Inv-loop μ-loop
+entry c = c .before .before
+
+abbrev loop-top : tie.After-round-of Inv-loop μ-loop → tie.At-loop Inv-loop μ-loop
+loop-top c = c .before .before
+
+abbrev finding-round : tie.After-known-told Inv-loop μ-loop → tie.After-round-of Inv-loop μ-loop
+finding-round c = c .before .before .before .before .before
+
 abbrev places : tie.Start Inv-loop μ-loop → ℕ → Stream
 places s = at (s .args .e .now) (s .args .n .now) (s .args .lower)
 
@@ -41,7 +51,7 @@ loop-holds c =
 
 round-of-requires : tie.Need-round-of-requires Inv-loop μ-loop
 round-of-requires c κs =
-    let s = c .before .before .before in
+    let s = entry (c .before) in
     let g = c .before .loop .inv in
     let room = s .pre .room in
     let long = g .long in
@@ -55,9 +65,10 @@ round-of-requires c κs =
 
 returns : tie.Need-returns Inv-loop μ-loop
 returns c =
-    let s = c .before .before .before .before .before .before .before .before .before in
-    let l = c .before .before .before .before .before .before .before .loop in
-    let o = c .before .before .before .before .before .round-of in
+    let round = finding-round c in
+    let s = entry (loop-top round) in
+    let l = loop-top round .loop in
+    let o = round .round-of in
     let i = c .before .left .given .0 .0 in
     let j = c .before .left .given .0 .1 .0 in
     subst (λ (z : ℤ). Found (places s) z (take (s .args .count) (s .args .w .now)) (ends i j)) (toZ-ofZ (s .fits .a))
@@ -66,14 +77,14 @@ returns c =
 
 -- what is known where a round keeps a list
 module _ (c : tie.After-known-told2 Inv-loop μ-loop) where
-  abbrev at-loop : tie.At-loop Inv-loop μ-loop
-  at-loop = c .before .before .before .before .before .before .before
-
-  abbrev start : tie.Start Inv-loop μ-loop
-  start = at-loop .before .before
-
   abbrev rounded : tie.After-round-of Inv-loop μ-loop
   rounded = c .before .before .before .before .before
+
+  abbrev at-loop : tie.At-loop Inv-loop μ-loop
+  at-loop = loop-top rounded
+
+  abbrev start : tie.Start Inv-loop μ-loop
+  start = entry at-loop
 
   abbrev left : List ℕ
   left = rounded .round-of .last .1 .1 .1 .1 .0
@@ -107,7 +118,7 @@ bridge-of-spec =
     loop-holds
     round-of-requires
     (λ c. search needs)
-    (λ c. c .before .before .before .before .before .round-of .kept .1 .1 .1 .1 .0 ∙ c .before .before .before .before .before .before .before .loop .inv .long)
+    (λ c. finding-round c .round-of .kept .1 .1 .1 .1 .0 ∙ loop-top (finding-round c) .loop .inv .long)
     returns
     (λ c. search needs)
     loop-less
