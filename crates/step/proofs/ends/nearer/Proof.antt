@@ -7,10 +7,20 @@ use Rattle.step.proofs.SignedWords.{word-less, tells}
 use Rattle.step.proofs.ends.nearer.Statement.{statement}
 use Rattle.step.proofs.ends.nearer.Tie as tie
 
+-- the places that follow one another in the code, each from the next: both easts are read, p is not further west, nor further east
+abbrev start : tie.After-struct-told2 → tie.Start
+start c = c .before .before .before .before
+
+abbrev not-west : tie.After-struct-told4 → tie.Else1
+not-west c = c .before .before .before .before
+
+abbrev not-east : tie.After-struct-told6 → tie.Else2
+not-east c = c .before .before .before .before
+
 returns : tie.Need-returns
 returns c =
     let d = c .before in
-    let a = d .before .before .before .before .args in
+    let a = start d .args in
     let p = d .before .before .struct-told .given in
     let q = d .struct-told2 .given in
     nearer-west (a .right) (place (a .p)) (place (a .q))
@@ -19,7 +29,7 @@ returns c =
 returns-2 : tie.Need-returns-2
 returns-2 c =
     let d = c .before in
-    let a = d .before .before .before .before .before .before .before .before .before .args in
+    let a = start (not-west d .before) .args in
     let p = d .struct-told4 .given in
     let q = d .before .before .struct-told3 .given in
     nearer-east (a .right) (place (a .p)) (place (a .q))
@@ -27,11 +37,12 @@ returns-2 c =
 
 returns-3 : tie.Need-returns-3
 returns-3 c =
-    let d = c .before .before .before .before in
-    let f = d .before .before .before .before .before in
-    let a = f .before .before .before .before .before .args in
-    let p = f .before .before .before .struct-told .given in
-    let q = f .before .struct-told2 .given in
+    let d = not-east c in
+    let f = not-west (d .before) in
+    let easts = f .before in
+    let a = start easts .args in
+    let p = easts .before .before .struct-told .given in
+    let q = easts .struct-told2 .given in
     word-less (a .q .north) (a .p .north) (sfits-of (q .1 .0 .1)) (sfits-of (p .1 .0 .1))
     ∙ nearer-level (a .right) (place (a .p)) (place (a .q))
     (tells (a .p .east) (a .q .east) (sfits-of (p .0 .1)) (sfits-of (q .0 .1)) (f .if1 .left))
