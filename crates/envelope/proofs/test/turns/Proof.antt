@@ -12,28 +12,41 @@ use Rattle.samples.specs.StreamWords.{held}
 use Rattle.envelope.proofs.test.turns.Statement.{statement}
 use Rattle.envelope.proofs.test.turns.Tie as tie
 
-right : (c : tie.Then1) → let a = c .before .before .args in ltZ (side (stream-of (a .a)) (stream-of (a .b)) (stream-of (a .c))) (pos 0) ≡ true
+-- the places that follow one another in the code, each from the next: the turn is to the right, both easts are read, a is not west of b
+abbrev start : tie.Then1 → tie.Start
+start c = c .before .before
+
+abbrev turned-right : tie.After-struct-told2 → tie.Then1
+turned-right c = c .before .before .before .before
+
+abbrev past-west : tie.After-struct-told4 → tie.Else2
+past-west c = c .before .before .before .before
+
+right : (c : tie.Then1) → let a = start c .args in ltZ (side (stream-of (a .a)) (stream-of (a .b)) (stream-of (a .c))) (pos 0) ≡ true
 right c = sym (c .before .strictly-right .ensures) ∙ c .if1 .taken
 
 returns : tie.Need-returns
 unfolding turns
 returns c =
-    let a = c .before .before .before .before .before .before .before .args in
-    let near = c .before .before .before .before .before .before .before .pre in
+    let d = turned-right (c .before) in
+    let a = start d .args in
+    let near = start d .pre in
     let west = ap₂ ltZ (sym (held (near .0 .east-near) .same)) (sym (held (near .1 .east-near) .same)) ∙ c .if2 .taken in
-    ap₂ (λ (s t : Bool). s && (t || ltZ (a .c .east) (a .b .east))) (sym (right (c .before .before .before .before .before))) (sym west)
+    ap₂ (λ (s t : Bool). s && (t || ltZ (a .c .east) (a .b .east))) (sym (right d)) (sym west)
 
 returns-2 : tie.Need-returns-2
 unfolding turns
 returns-2 c =
-    let a = c .before .before .before .before .before .before .before .before .before .before .before .args in
-    let near = c .before .before .before .before .before .before .before .before .before .before .before .pre in
+    let e = past-west c in
+    let d = turned-right (e .before) in
+    let a = start d .args in
+    let near = start d .pre in
     let not-west =
-    ap₂ ltZ (sym (held (near .0 .east-near) .same)) (sym (held (near .1 .east-near) .same)) ∙ c .before .before .before .before .if2 .left in
+    ap₂ ltZ (sym (held (near .0 .east-near) .same)) (sym (held (near .1 .east-near) .same)) ∙ e .if2 .left in
     ap₂ ltZ (held (near .2 .east-near) .same) (held (near .1 .east-near) .same) ∙
     ap₂
     (λ (s t : Bool). s && (t || ltZ (a .c .east) (a .b .east)))
-    (sym (right (c .before .before .before .before .before .before .before .before .before)))
+    (sym (right d))
     (sym not-west)
 
 returns-3 : tie.Need-returns-3
