@@ -8,9 +8,19 @@ use Rattle.samples.specs.StreamWords.{three-near}
 use Rattle.samples.proofs.streams.side.Statement.{statement}
 use Rattle.samples.proofs.streams.side.Tie as tie
 
+-- the places that follow one another in the code, each from the next: the parts of p are read, then those of q, then those of r
+abbrev entry : tie.After-struct-told2 → tie.Start
+entry c = c .before .before .before .before
+
+abbrev p-read : tie.After-struct-told4 → tie.After-struct-told2
+p-read c = c .before .before .before .before
+
+abbrev q-read : tie.After-struct-told6 → tie.After-struct-told4
+q-read c = c .before .before .before .before
+
 -- the entry, from where all six parts are read
 abbrev start : tie.After-struct-told6 → tie.Start
-start c = c .before .before .before .before .before .before .before .before .before .before .before .before
+start c = entry (p-read (q-read c))
 
 abbrev first : Ex
 first = (var 2 ⊖ var 0) ⊗ (var 5 ⊖ var 1)
@@ -27,10 +37,10 @@ side-spec =
     tie.close
     (tie.spec
     (λ c. step-fits w64 (three-near (c .before .before .pre)) (var 0) tt)
-    (λ c. step-fits w64 (three-near (c .before .before .before .before .pre)) (var 1) tt)
-    (λ c. step-fits w64 (three-near (c .before .before .before .before .before .before .pre)) (var 2) tt)
-    (λ c. step-fits w64 (three-near (c .before .before .before .before .before .before .before .before .pre)) (var 3) tt)
-    (λ c. step-fits w64 (three-near (c .before .before .before .before .before .before .before .before .before .before .pre)) (var 4) tt)
+    (λ c. step-fits w64 (three-near (entry c .pre)) (var 1) tt)
+    (λ c. step-fits w64 (three-near (entry (c .before .before) .pre)) (var 2) tt)
+    (λ c. step-fits w64 (three-near (entry (p-read c) .pre)) (var 3) tt)
+    (λ c. step-fits w64 (three-near (entry (p-read (c .before .before)) .pre)) (var 4) tt)
     (λ c. step-fits w64 (three-near (start c .pre)) (var 5) tt)
     (λ c. step-fits w64 (three-near (start c .pre)) (var 2 ⊖ var 0) tt)
     (λ c. step-fits w64 (three-near (start c .pre)) (var 5 ⊖ var 1) tt)
