@@ -7,6 +7,7 @@ mod scan;
 ghost use lib.ListN.{take};
 ghost use Rattle.picker.specs.Picking.{Pickable, Picks, Grouped, Pivots};
 ghost use Rattle.picker.specs.Outcome.{PickPromise};
+use samples::tests::MOST;
 use samples::words::clear;
 
 // The answer: the number of the asked rank, or the refusal's number and place.
@@ -60,7 +61,7 @@ pub fn pick(xs: &[i32], r: usize, scratch: &mut [u32]) -> Picked
     ensures { λ answer. ⌜ PickPromise (now (xs .entry)) r (now (scratch .entry)) answer (now (scratch .exit)) ⌝ }
 {
     let n = xs.len();
-    if 65536 < n {
+    if MOST < n {
         return Picked::Refused {
             number: 2,
             place: 0,
