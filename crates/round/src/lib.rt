@@ -6,6 +6,7 @@ mod tops;
 
 use self::core::Said;
 use self::core::round_of;
+use samples::tests::MOST;
 use samples::tests::Tested;
 use samples::tests::first_beyond;
 use samples::tests::first_unlisted;
@@ -18,9 +19,6 @@ ghost use lib.ListN.{length};
 ghost use Rattle.samples.specs.Tests.{tested-of};
 ghost use Rattle.round.specs.Saying.{kept-count};
 ghost use Rattle.round.specs.Promise.{round-tests, Answered, RoundPromise};
-
-// at most so many samples, or list items
-const MOST: usize = 65536;
 
 // The answer of a round: the two ends of the bridge, left first; or how many numbers it keeps, which lie in the output; or a refusal's number and place.
 pub enum RoundAnswer {

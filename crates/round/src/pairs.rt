@@ -1,18 +1,13 @@
 // The slopes of the pairs of a list, written behind it.
 use samples::position::Position;
 use samples::position::position_of;
+use slopes::Fraction;
 ghost use Prim.Native.Nat.{_<_};
 ghost use lib.ListN.{length};
 ghost use Rattle.samples.specs.Positions.{Sampled, Near, at, place};
 ghost use Rattle.round.specs.Slopes.{PairSlope, SlopesAsk, Sloped};
 
-// Two words of a slope: the rise plus 2,000,000, and the run. A run of 0 stands for no slope.
-pub struct Fraction {
-    pub rise: u32,
-    pub run: u32,
-}
-
-// The slope of two positions, ordered by east.
+// The slope of two positions, ordered by east. A run of 0 stands for no slope.
 fn slope_between(p: Position, q: Position) -> Fraction
     requires { ⌜ Near (place p) × Near (place q) ⌝ }
     ensures { λ r. ⌜ PairSlope (place p) (place q) (r .rise) (r .run) ⌝ }

@@ -18,7 +18,7 @@ use Rattle.laws_ranks.specs.Ranks.{HasRank, under, upto, over}
 use Rattle.laws_ranks.specs.Least.{LeastOut, out-one, out-more, out-first, out-next}
 use Rattle.slopes.specs.Fractions.{fraction, fraction-at, fractions, put, Part, Sound, Pickable, Near, Picked}
 use Rattle.slopes.specs.Passes.{Shows, Stands, Listed, Roomy, Counted, Kept, Parted, Lifted, Answers, Narrowed, Alike, copied, Copied, Gatherable, Gathered, Pivoted}
-use Rattle.slopes.specs.declared.fraction.Fraction.{Fraction}
+use Rattle.slopes.specs.declared.Fraction.{Fraction}
 use Rattle.slopes.specs.declared.scan.Counts.{Counts}
 use Rattle.laws_rounds.specs.Slopes.{slope-order}
 use Rattle.slopes.specs.Order.{rank-below-on, rank-above-on, fewer-below, fewer-above, level-ranked}

@@ -1,7 +1,7 @@
 // A few of the slopes at the front of scratch, gathered behind them, for a pivot to be picked from.
-use super::fraction::copy;
-use super::fraction::less;
-use super::fraction::slope_at;
+use super::words::copy;
+use super::words::less;
+use super::words::slope_at;
 ghost use Prim.Native.Nat.{_+_, _≤_, _<_};
 ghost use Rattle.slopes.specs.Passes.{Stands, Listed, Capped, Gatherable, Gathered};
 

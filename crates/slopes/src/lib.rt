@@ -1,9 +1,9 @@
 // The pick of a slope: the slope of a given rank among those that lie at the front of scratch, two words each. Slopes are compared by cross products and
 // never divided. A step parts the slopes below a pivot from those above it and goes on with the side that has the rank; correctness needs only that the pivot is
 // one of the slopes. Of twelve slopes or fewer the least is taken out until it has the rank.
-mod fraction;
 mod gather;
 mod scan;
+mod words;
 
 ghost use Rattle.slopes.specs.Fractions.{as-slope, fractions, Pickable, Picked};
 ghost use Rattle.slopes.specs.Passes.{Pivotable, Pivoted, Answers};
@@ -12,6 +12,12 @@ ghost use Rattle.slopes.specs.Passes.{Pivotable, Pivoted, Answers};
 pub struct Slope {
     pub rise: i32,
     pub run: i32,
+}
+
+// The two words of a slope in scratch: the rise plus 2,000,000, and the run.
+pub struct Fraction {
+    pub rise: u32,
+    pub run: u32,
 }
 
 // The slope of rank r among the q at the front of w.
@@ -46,7 +52,7 @@ fn pivot(w: &mut [u32], n: usize, wide: bool) -> Slope
     ensures { λ s. ⌜ Pivoted n (now (w .entry)) (now (w .exit)) (as-slope s) ⌝ }
 {
     if n < 40 {
-        return fraction::slope_at(w, gather::middle_of_three(w, n / 4, n / 2, n - 1));
+        return words::slope_at(w, gather::middle_of_three(w, n / 4, n / 2, n - 1));
     }
     let g = gather::few(w, n, wide);
     let e = 2 * n;

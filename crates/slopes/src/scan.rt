@@ -1,12 +1,12 @@
 // Passes over the slopes at the front of scratch.
 use super::Slope;
-use super::fraction::chosen;
-use super::fraction::copy;
-use super::fraction::fraction_at;
-use super::fraction::less;
-use super::fraction::slope_at;
-use super::fraction::slope_of;
-use super::fraction::store;
+use super::words::chosen;
+use super::words::copy;
+use super::words::fraction_at;
+use super::words::less;
+use super::words::slope_at;
+use super::words::slope_of;
+use super::words::store;
 ghost use mathlib.Core.List.{List·Memᴰ};
 ghost use Prim.Native.Nat.{_*_, _≤_};
 ghost use lib.ListN.{length, drop};

@@ -19,7 +19,7 @@ use Rattle.slopes.proofs.+pick+pivot.Lts-pick as pick-lts
 use Rattle.slopes.proofs.pivot.Reads as pivot
 use Rattle.slopes.proofs.pivot.Kinds as pivot-kinds
 use Rattle.slopes.proofs.+pick+pivot.Lts-pivot as pivot-lts
-use Rattle.slopes.proofs.fraction.slope_at.Reads as slope-at-reads
+use Rattle.slopes.proofs.words.slope_at.Reads as slope-at-reads
 use Rattle.slopes.proofs.gather.middle_of_three.Reads as three-reads
 use Rattle.slopes.proofs.gather.few.Reads as few-reads
 use Rattle.slopes.proofs.scan.short.Reads as short-reads

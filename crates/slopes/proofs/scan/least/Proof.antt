@@ -8,7 +8,7 @@ use borrow.Author.Needs.{needs}
 use lib.ListN.{getD}
 use Rattle.rules.specs.Round.{Slope, slope-le}
 use Rattle.laws_ranks.specs.Ranks.{under}
-use Rattle.slopes.specs.declared.fraction.Fraction.{Fraction}
+use Rattle.slopes.specs.declared.Fraction.{Fraction}
 use Rattle.slopes.specs.Fractions.{put}
 use Rattle.slopes.specs.Passes.{Lifted}
 use Rattle.slopes.specs.Steps.{Lifting, Read, lifting-none, next-part, lifting-more, lifting-all}

@@ -1,4 +1,4 @@
--- `slopes::fraction::slope_of` meets its contract: the words are small enough for 32 bits with a sign. Assumes nothing.
+-- `slopes::words::slope_of` meets its contract: the words are small enough for 32 bits with a sign. Assumes nothing.
 use mathlib.Core.Path.{ap₂}
 use lib.IntN.{ℤ, pos}
 use mir.Syntax.{w32}
@@ -7,8 +7,8 @@ use Rattle.whole.specs.Fits.{step-fits, word-is}
 use Rattle.rules.specs.Round.{Slope}
 use Rattle.slopes.specs.Steps.{shows}
 use Rattle.slopes.proofs.SlopeWords.{part-leaves}
-use Rattle.slopes.proofs.fraction.slope_of.Statement.{statement}
-use Rattle.slopes.proofs.fraction.slope_of.Tie as tie
+use Rattle.slopes.proofs.words.slope_of.Statement.{statement}
+use Rattle.slopes.proofs.words.slope_of.Tie as tie
 
 cast-t3 : tie.Need-cast-t3
 cast-t3 c = step-fits w32 (part-leaves (c .pre)) (var 0) tt

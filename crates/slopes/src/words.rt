@@ -1,4 +1,5 @@
 // A slope as it lies in scratch, and the one comparison of slopes.
+use super::Fraction;
 use super::Slope;
 ghost use mathlib.Core.Bool.{cond};
 ghost use mathlib.Core.Path.{_≡_};
@@ -27,12 +28,6 @@ pub fn slope_at(w: &[u32], k: usize) -> Slope
     ensures { λ r. ⌜ Shows (getD (now (w .entry)) (2 * k) 0) (getD (now (w .entry)) (2 * k + 1) 0) (as-slope r) ⌝ }
 {
     slope_of(w[2 * k], w[2 * k + 1])
-}
-
-// The two words of a slope.
-pub struct Fraction {
-    pub rise: u32,
-    pub run: u32,
 }
 
 // The words of slope k.

@@ -1,11 +1,11 @@
--- `slopes::fraction::store` meets its contract. Assumes nothing.
+-- `slopes::words::store` meets its contract. Assumes nothing.
 use mathlib.Core.Path.{refl}
 use borrow.Author.Needs.{needs}
 use lib.ListN.{length-set}
 use native.Mathlib.Omega.{arith}
 use Rattle.slopes.specs.Fractions.{put}
-use Rattle.slopes.proofs.fraction.store.Statement.{statement}
-use Rattle.slopes.proofs.fraction.store.Tie as tie
+use Rattle.slopes.proofs.words.store.Statement.{statement}
+use Rattle.slopes.proofs.words.store.Tie as tie
 
 returns : tie.Need-returns
 unfolding put

@@ -1,4 +1,4 @@
--- `slopes::fraction::less` meets its contract. Assumes nothing.
+-- `slopes::words::less` meets its contract. Assumes nothing.
 use mathlib.Core.Path.{ap₂, _∙_}
 use borrow.Author.Needs.{needs}
 use lib.IntN.{_*ℤ_}
@@ -7,8 +7,8 @@ use mir.Syntax.{w64}
 use mir.Facts.{toZ-ofZ}
 use Rattle.rules.specs.Round.{slope-le}
 use Rattle.laws_ranks.specs.Numbers.{whole-under}
-use Rattle.slopes.proofs.fraction.less.Statement.{statement}
-use Rattle.slopes.proofs.fraction.less.Tie as tie
+use Rattle.slopes.proofs.words.less.Statement.{statement}
+use Rattle.slopes.proofs.words.less.Tie as tie
 
 cross-requires : tie.Need-cross-requires
 cross-requires c κs = search needs

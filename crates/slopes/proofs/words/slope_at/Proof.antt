@@ -1,8 +1,8 @@
--- `slopes::fraction::slope_at` meets its contract. Assumes nothing.
+-- `slopes::words::slope_at` meets its contract. Assumes nothing.
 use borrow.Author.Needs.{needs}
 use native.Mathlib.Omega.{arith}
-use Rattle.slopes.proofs.fraction.slope_at.Statement.{statement}
-use Rattle.slopes.proofs.fraction.slope_at.Tie as tie
+use Rattle.slopes.proofs.words.slope_at.Statement.{statement}
+use Rattle.slopes.proofs.words.slope_at.Tie as tie
 
 mul-slope-of : tie.Need-mul-slope-of
 mul-slope-of c = omega arith

@@ -1,10 +1,10 @@
--- `slopes::fraction::cross` meets its contract: the product fits 64 bits. Assumes nothing.
+-- `slopes::words::cross` meets its contract: the product fits 64 bits. Assumes nothing.
 use mir.Syntax.{w64}
 use Rattle.whole.specs.Solver.{var, _⊗_}
 use Rattle.whole.specs.Fits.{step-fits, word-is}
 use Rattle.slopes.proofs.SlopeWords.{cross-leaves}
-use Rattle.slopes.proofs.fraction.cross.Statement.{statement}
-use Rattle.slopes.proofs.fraction.cross.Tie as tie
+use Rattle.slopes.proofs.words.cross.Statement.{statement}
+use Rattle.slopes.proofs.words.cross.Tie as tie
 
 cast-result : tie.Need-cast-result
 cast-result c = let h = c .before .before .pre in step-fits w64 (cross-leaves (h .0) (h .1)) (var 0) tt

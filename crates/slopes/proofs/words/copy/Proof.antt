@@ -1,8 +1,8 @@
--- `slopes::fraction::copy` meets its contract. Assumes nothing.
+-- `slopes::words::copy` meets its contract. Assumes nothing.
 use mathlib.Core.Path.{_∙_, ap₂}
 use Rattle.slopes.specs.Fractions.{put}
-use Rattle.slopes.proofs.fraction.copy.Statement.{statement}
-use Rattle.slopes.proofs.fraction.copy.Tie as tie
+use Rattle.slopes.proofs.words.copy.Statement.{statement}
+use Rattle.slopes.proofs.words.copy.Tie as tie
 
 returns : tie.Need-returns
 returns c =
