@@ -18,6 +18,10 @@ pub byte-is : (b : Bool) → boolByte b ≡ bit b
 byte-is true = refl
 byte-is false = refl
 
+pub byte-most : (b : Bool) → boolByte b ≤ 1
+byte-most true = omega arith
+byte-most false = omega arith
+
 module _ {A : Type 0} where
   -- the first items and one more
   pub first-more : (d : A) (xs : List A) (i : ℕ) → i < length xs → take (i + 1) xs ≡ take i xs ++ (getD xs i d ∷ [])

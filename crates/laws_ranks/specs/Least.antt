@@ -1,14 +1,15 @@
--- The least item taken out of a list: what is left, and how ranks go over to it. The test of order need hold only among the items that P holds of.
+-- The least item taken out of a list: what is left, and how ranks go over to it; a rank sought so, until the least has it. The test of order need hold only among the items that P holds of.
 -- Assumes nothing.
 use mathlib.Core.Path.{_≡_, refl, sym, subst}
 use mathlib.Core.Logic.{_⊎_, inl, inr}
 use mathlib.Core.Bool.{Bool, true, false, cond, not}
 use mathlib.Core.List.{List, [], _∷_, _++_, List·Memᴰ, List·Memᴰ·head, List·Memᴰ·not-nil, List·Memᴰ·append-cases, Memᴰ·append-left, Memᴰ·append-right, List·Memᴰ·eq-of-singleton, List·Memᴰ·cases-cons}
-use Prim.Native.Nat.{ℕ, _+_}
+use Prim.Native.Nat.{ℕ, _+_, _-_, _<_}
 use native.Mathlib.Omega.{arith}
 use lib.Dec.{T, T-not, not-T}
 use Rattle.laws_ranks.specs.Counts.{bit-le, bit-yes, count, count-append, count-nothing, SameItems}
-use Rattle.laws_ranks.specs.Ranks.{OrderOn, HasRank, under, upto, not-not, twice}
+use Rattle.laws_ranks.specs.Ranks.{HasRank, under, upto, not-not, twice}
+use Rattle.laws_ranks.specs.RanksAmong.{OrderOn}
 
 module _ {A : Type 0} (le : A → A → Bool) where
   -- p is the least of xs, and ys are the others, in any order
@@ -17,6 +18,14 @@ module _ {A : Type 0} (le : A → A → Bool) where
     pub isIn : List·Memᴰ p xs
     pub others-in : (y : A) → List·Memᴰ y ys → List·Memᴰ y xs
     pub least : (y : A) → List·Memᴰ y ys → T (le p y)
+
+  -- of xs the ys are left: what has rank s among them has rank r among xs
+  pub record Sought (xs : List A) (r : ℕ) (ys : List A) (s : ℕ) : Type 0 where
+    pub left-in : (y : A) → List·Memᴰ y ys → List·Memᴰ y xs
+    pub back : (y : A) → List·Memᴰ y ys → HasRank le s ys y → HasRank le r xs y
+
+  pub sought-first : (xs : List A) (r : ℕ) → Sought xs r xs r
+  sought-first xs r = record { left-in = λ y m. m; back = λ y m h. h }
 
 -- what holds of every item and of one more holds of all
 all-more : {A : Type 0} (Q : A → Type 0) (ys : List A) (w : A) → ((y : A) → List·Memᴰ y ys → Q y) → Q w → (y : A) → List·Memᴰ y (ys ++ (w ∷ [])) → Q y
@@ -104,3 +113,20 @@ module _ {A : Type 0} {P : A → Type 0} {le : A → A → Bool} (o : OrderOn P 
             let a = k .fewer in
             let b = k .enough in
             absurd (omega arith)
+
+  module _ {xs ys zs : List A} {r s : ℕ} {p : A} (all : (y : A) → List·Memᴰ y xs → P y) (t : Sought le xs r ys s) (h : LeastOut le ys p zs) where
+    left : (y : A) → List·Memᴰ y ys → P y
+    left y m = all y (t .left-in y m)
+
+    -- the least of those that are left has the rank
+    pub sought-here : s ≡ 1 → List·Memᴰ p xs × HasRank le r xs p
+    sought-here e = (t .left-in p (h .isIn), t .back p (h .isIn) (rw e (out-first left h)))
+
+    -- or it is taken out, and the rank before is sought among the others
+    pub sought-next : 1 < s → Sought le xs r zs (s - 1)
+    sought-next more =
+        let next : s - 1 + 1 ≡ s = omega arith in
+        record {
+          left-in = λ y m. t .left-in y (h .others-in y m);
+          back = λ y m k. t .back y (h .others-in y m) (rw next at (out-next left h (left y (h .others-in y m)) k));
+        }

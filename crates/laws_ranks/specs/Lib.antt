@@ -1,6 +1,7 @@
 pub mod Counts
 pub mod Kept
 pub mod Ranks
+pub mod RanksAmong
 pub mod Least
 pub mod Numbers
 pub mod Middles

@@ -1,7 +1,7 @@
 -- The rule's own way to pick over a list of any length: its pivot is the middle of the middles of groups of five, and the pick goes on with the side that
 -- has the rank; fewer than five items have no group. It gives the rank, so that any other way to the rank gives the same.
 -- Assumes nothing.
-use mathlib.Core.Path.{_≡_, refl, sym}
+use mathlib.Core.Path.{_≡_, refl}
 use mathlib.Core.Bool.{Bool, true, false, cond}
 use mathlib.Core.List.{List}
 use Prim.Native.Nat.{ℕ, zero, suc, _-_, _≤_}

@@ -16,7 +16,8 @@ use Rattle.whole.specs.Certificate.{from-≤, from-<, from-≡, from-0<, from-�
 use Rattle.rules.specs.Streams.{Stream, side}
 use Rattle.rules.specs.Round.{Slope, slope, slope-le, height, middle-slope}
 use Rattle.laws_ranks.specs.Counts.{count, count-not}
-use Rattle.laws_ranks.specs.Ranks.{OrderOn, HasRank, ranked-holds-on, ranked-has-rank-on, rank-by-counts-on}
+use Rattle.laws_ranks.specs.Ranks.{HasRank}
+use Rattle.laws_ranks.specs.RanksAmong.{OrderOn, ranked-holds-on, ranked-has-rank-on, rank-by-counts-on}
 use Rattle.laws_outline.specs.ListLaws.{same-true}
 use Rattle.laws_rounds.specs.Items.{T-true, false-T, not-not}
 

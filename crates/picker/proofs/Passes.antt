@@ -12,8 +12,9 @@ use lib.Dec.{leb, ltb}
 use lib.ListN.{length, getD, take, drop, set, length-take, length-drop, length-set}
 use lib.Seq.{take-suc, take-suc-set, take-set-le, drop-set-lt, drop-set-add, getD-drop, getD-set-other}
 use Rattle.laws_ranks.specs.Kept.{first-more, stored, Kept, kept-none, kept-more, kept-most, kept-same}
-use Rattle.laws_ranks.specs.Ranks.{OrderOn, order-on, HasRank, under, over}
-use Rattle.laws_ranks.specs.Least.{LeastOut, out-one, out-more, out-first, out-next}
+use Rattle.laws_ranks.specs.Ranks.{under, over}
+use Rattle.laws_ranks.specs.RanksAmong.{OrderOn, order-on}
+use Rattle.laws_ranks.specs.Least.{LeastOut, out-one, out-more}
 use Rattle.laws_ranks.specs.Numbers.{natural-order, natural-under}
 use Rattle.picker.specs.Picking.{Pickable, Parted}
 
@@ -112,7 +113,7 @@ pub record Lifting (given now : List ℕ) (i p : ℕ) : Type 0 where
   pub rest : (j : ℕ) → i < j → getD now j 0 ≡ getD given j 0
   pub out : LeastOut leb (take (i + 1) given) p (take i now)
 
-keys-order : OrderOn (λ (x : ℕ). Unit {0}) leb
+pub keys-order : OrderOn (λ (x : ℕ). Unit {0}) leb
 keys-order = order-on natural-order
 
 -- the lesser of two keys and the greater, as a test chooses them
@@ -149,32 +150,9 @@ lifting-all n {given} {now} {i} {p} e t =
     let k : n - 1 ≡ i = omega arith in
     rw (k, ← e) (t .out)
 
--- what has rank s among the m keys at the front has rank r among the n that were lent
-pub record Sought (given : List ℕ) (n r : ℕ) (now : List ℕ) (m s : ℕ) : Type 0 where
-  pub low : 1 ≤ s
-  pub high : s ≤ m
-  pub room : m ≤ length now
-  pub long : length now ≡ length given
-  pub back : (v : ℕ) → HasRank leb s (take m now) v → HasRank leb r (take n given) v
-
-pub sought-first : {given : List ℕ} {n r : ℕ} → Pickable given n r → Sought given n r given n r
-sought-first h = record { low = h .least; high = h .most; room = omega (arith, h .room); long = refl; back = λ v k. k }
-
-module _ {given now : List ℕ} {n r m s p : ℕ} (t : Sought given n r now m s) where
-  pub sought-here : {ys : List ℕ} → LeastOut leb (take m now) p ys → s ≡ 1 → HasRank leb r (take n given) p
-  sought-here out e = t .back p (rw e (out-first keys-order (λ y k. tt) out))
-
-  pub sought-next : (after : List ℕ) → length after ≡ length now → LeastOut leb (take m now) p (take (m - 1) after) → 1 < s
-      → Sought given n r after (m - 1) (s - 1)
-  sought-next after same out more =
-      let a = t .high in
-      let b = t .room in
-      let l = t .long in
-      let next : s - 1 + 1 ≡ s = omega arith in
-      record {
-        low = omega arith;
-        high = omega arith;
-        room = omega arith;
-        long = omega arith;
-        back = λ v k. t .back v (rw next at (out-next keys-order (λ y m. tt) out tt k));
-      }
+-- the rank before, among one key fewer
+pub asked-next : {w after : List ℕ} {m s : ℕ} → Pickable w m s → length after ≡ length w → 1 < s → Pickable after (m - 1) (s - 1)
+asked-next t same more =
+    let a = t .most in
+    let b = t .room in
+    record { least = omega arith; most = omega arith; room = omega arith }

@@ -12,7 +12,8 @@ use lib.Dec.{T, leb, ltb, leb→le, le→leb}
 use lib.ListN.{length, length-map}
 use Rattle.rules.specs.Picker.{ranked, rank}
 use Rattle.laws_ranks.specs.Counts.{count, same-test, count-same}
-use Rattle.laws_ranks.specs.Ranks.{Order, HasRank, under, upto, by-key, by-key-order, ranked-map, ranked-has-rank, ranked-in, rank-least, rank-most}
+use Rattle.laws_ranks.specs.Ranks.{Order, HasRank, under, upto, ranked-has-rank, ranked-in, rank-least, rank-most}
+use Rattle.laws_ranks.specs.RanksAmong.{by-key, by-key-order, ranked-map}
 use Rattle.laws_ranks.specs.Numbers.{natural-order, natural-rank-is, rank-is}
 use Rattle.picker.specs.Keys.{key-of, number-of, Words}
 use Rattle.picker.specs.declared.Ranked.{Ranked}

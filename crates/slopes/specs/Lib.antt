@@ -2,4 +2,7 @@ pub mod Fractions
 pub mod Passes
 pub mod Order
 pub mod Laws
-pub mod Steps
+pub mod PassLaws
+pub mod PivotSteps
+pub mod ShortLists
+pub mod Gathering

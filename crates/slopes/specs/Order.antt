@@ -15,7 +15,8 @@ use Rattle.rules.specs.Picker.{ranked}
 use Rattle.rules.specs.Round.{Slope, slope-le}
 use Rattle.laws_rounds.specs.Slopes.{Up, slope-order}
 use Rattle.laws_ranks.specs.Counts.{count, not-by, count-map, count-not, count-le-length, counted}
-use Rattle.laws_ranks.specs.Ranks.{OrderOn, Held, item-of, held-order, HasRank, Level, under, upto, over, rank-of-key, rank-of-item, rank-among-below, rank-among-above, rank-by-counts-on}
+use Rattle.laws_ranks.specs.Ranks.{HasRank, Level, under, upto, over, rank-among-below, rank-among-above}
+use Rattle.laws_ranks.specs.RanksAmong.{OrderOn, Held, item-of, held-order, rank-of-key, rank-of-item, rank-by-counts-on}
 
 -- ---- picking by a pivot, where the test is an order among the items that P holds of
 

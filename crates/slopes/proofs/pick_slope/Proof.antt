@@ -1,6 +1,6 @@
 -- `slopes::pick_slope` meets its contract: a slope that has the rank is level with the r-th smallest. Assumes nothing.
 use borrow.Author.Needs.{needs}
-use Rattle.slopes.specs.Steps.{picked}
+use Rattle.slopes.specs.Gathering.{picked}
 use Rattle.slopes.proofs.pick_slope.Statement.{statement}
 use Rattle.slopes.proofs.pick_slope.Tie as tie
 

@@ -2,7 +2,7 @@
 use Prim.Native.Nat.{_+_, _<_}
 use native.Mathlib.Omega.{arith}
 use borrow.Author.Needs.{needs}
-use Rattle.slopes.specs.Steps.{fewer-listed, stands}
+use Rattle.slopes.specs.PassLaws.{fewer-listed, stands}
 use Rattle.slopes.proofs.gather.middle.Statement.{statement}
 use Rattle.slopes.proofs.gather.middle.Tie as tie
 

@@ -1,7 +1,7 @@
 -- `slopes::gather::middle_of_three` meets its contract: each place on the way is one of the three. Assumes nothing.
 use Prim.Native.Nat.{_+_, _<_}
 use native.Mathlib.Omega.{arith}
-use Rattle.slopes.specs.Steps.{stands}
+use Rattle.slopes.specs.PassLaws.{stands}
 use Rattle.slopes.proofs.gather.middle_of_three.Statement.{statement}
 use Rattle.slopes.proofs.gather.middle_of_three.Tie as tie
 

@@ -3,7 +3,7 @@ use mathlib.Core.Path.{_≡_, sym, subst}
 use mathlib.Core.List.{List}
 use Prim.Native.Nat.{ℕ, _+_, _*_, _≤_, _-_, _/_}
 use native.Mathlib.Omega.{arith}
-use Rattle.slopes.specs.Steps.{Gathering, gathering-none, gathering-more, listed-here, gathered}
+use Rattle.slopes.specs.Gathering.{Gathering, gathering-none, gathering-more, listed-here, gathered}
 use Rattle.slopes.proofs.gather.middles.Statement.{statement}
 use Rattle.slopes.proofs.gather.middles.Tie as tie
 

@@ -4,7 +4,7 @@ use mathlib.Core.Path.{_≡_, refl, sym, subst}
 use mathlib.Core.List.{List}
 use Prim.Native.Nat.{ℕ, zero, suc, _+_, _*_, _≤_, _<_, _-_}
 use native.Mathlib.Omega.{arith}
-use Rattle.slopes.specs.Steps.{Gathering, gathering-none, gathering-more, gathered}
+use Rattle.slopes.specs.Gathering.{Gathering, gathering-none, gathering-more, gathered}
 use Rattle.slopes.proofs.gather.sample.Statement.{statement}
 use Rattle.slopes.proofs.gather.sample.Tie as tie
 

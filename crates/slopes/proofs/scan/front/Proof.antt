@@ -5,7 +5,7 @@ use Prim.Native.Nat.{ℕ, _+_, _*_, _≤_, _-_}
 use native.Mathlib.Omega.{arith}
 use lib.ListN.{drop}
 use Rattle.slopes.specs.Passes.{Alike}
-use Rattle.slopes.specs.Steps.{Fronting, fronting-none, fronting-more}
+use Rattle.slopes.specs.PassLaws.{Fronting, fronting-none, fronting-more}
 use Rattle.slopes.proofs.scan.front.Statement.{statement}
 use Rattle.slopes.proofs.scan.front.Tie as tie
 

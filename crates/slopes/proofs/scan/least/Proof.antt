@@ -11,7 +11,7 @@ use Rattle.laws_ranks.specs.Ranks.{under}
 use Rattle.slopes.specs.declared.Fraction.{Fraction}
 use Rattle.slopes.specs.Fractions.{put}
 use Rattle.slopes.specs.Passes.{Lifted}
-use Rattle.slopes.specs.Steps.{Lifting, Read, lifting-none, next-part, lifting-more, lifting-all}
+use Rattle.slopes.specs.ShortLists.{Lifting, Read, lifting-none, next-part, lifting-more, lifting-all}
 use Rattle.slopes.proofs.scan.least.Statement.{statement}
 use Rattle.slopes.proofs.scan.least.Tie as tie
 

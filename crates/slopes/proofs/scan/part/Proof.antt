@@ -7,11 +7,12 @@ use native.Mathlib.Omega.{arith}
 use lib.ListN.{length}
 use mir.Val.{boolByte}
 use Rattle.rules.specs.Round.{slope-le}
+use Rattle.laws_ranks.specs.Kept.{byte-most}
 use Rattle.laws_ranks.specs.Ranks.{under, over}
 use Rattle.slopes.specs.Fractions.{as-slope}
 use Rattle.slopes.specs.Passes.{copied}
-use Rattle.slopes.specs.Steps.{counted-most, Parting, parting-none, parting-more, stands-here, inside-above, inside-once, inside-below, parted}
-use Rattle.slopes.proofs.SlopeWords.{as-bytes, byte-most}
+use Rattle.slopes.specs.PassLaws.{counted-most, Parting, parting-none, parting-more, stands-here, inside-above, inside-once, inside-below, parted}
+use Rattle.slopes.proofs.SlopeWords.{as-bytes}
 use Rattle.slopes.proofs.scan.part.Statement.{statement}
 use Rattle.slopes.proofs.scan.part.Tie as tie
 

@@ -5,7 +5,7 @@ use mir.Syntax.{w32}
 use Rattle.whole.specs.Solver.{var, num, _⊖_}
 use Rattle.whole.specs.Fits.{step-fits, word-is}
 use Rattle.rules.specs.Round.{Slope}
-use Rattle.slopes.specs.Steps.{shows}
+use Rattle.slopes.specs.PassLaws.{shows}
 use Rattle.slopes.proofs.SlopeWords.{part-leaves}
 use Rattle.slopes.proofs.words.slope_of.Statement.{statement}
 use Rattle.slopes.proofs.words.slope_of.Tie as tie
