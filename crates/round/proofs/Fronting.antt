@@ -12,8 +12,7 @@ use lib.Seq.{getD-drop, drop-cons, drop-drop, drop-set-lt}
 use Rattle.rules.specs.Lists.{consIf}
 use Rattle.rules.specs.Streams.{Stream}
 use Rattle.rules.specs.Round.{Tops, pair, paired, keeps, keep}
-use Rattle.laws_ranks.specs.Kept.{stored}
-use Rattle.samples.specs.Scans.{byte-most}
+use Rattle.laws_ranks.specs.Kept.{byte-most, stored}
 use Rattle.round.specs.Keeping.{chosen, KeptFront}
 use Rattle.round.proofs.Places.{drop-two}
 

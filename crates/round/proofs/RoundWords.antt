@@ -12,34 +12,27 @@ use mir.Syntax.{w32, w64}
 use mir.Val.{Fits, toZ, ofZ}
 use mir.Facts.{toZ-ofZ}
 use Rattle.whole.specs.Solver.{Ex, var, num, _⊗_, eval}
-use Rattle.whole.specs.Fits.{Within, Held, Leaves, Bounded, []ʷ, _∷ʷ_, _∷ᶜ_, cast-within, value-fits, value-within, bound, safe, word, word-is, word-within}
+use Rattle.whole.specs.Fits.{Within, Leaves, Bounded, []ʷ, _∷ʷ_, _∷ᶜ_, read, read-within, value-within, bound, safe, word, word-is, word-within}
 use Rattle.rules.specs.Streams.{Stream}
 use Rattle.rules.specs.Round.{Slope}
 use Rattle.slopes.specs.Fractions as fractions
 use Rattle.samples.specs.Positions.{Near}
 use Rattle.round.specs.Tops.{spread, slope-by, scaled, Scaled}
 
--- a number of a slope, read as 32 bits
-abbrev read : ℤ → ℤ
-read z = toZ w32 (ofZ w32 z)
-
-held : {z : ℤ} → Within z 2000000 → Held (read z) z 2000000
-held h = cast-within (value-fits w32 (h ∷ʷ []ʷ) (var 0) tt) h
-
 -- a number that fits 64 bits is what its word is read as
 pub word-of : (z : ℤ) → mag z < 2 ^ 63 → toZ w64 (ofZ w64 z) ≡ z
 word-of z h = toZ-ofZ (sfits-of {w = w64} h)
 
 -- K's rise or run, and that times the spread
-pub slope-leaf : {z : ℤ} → Within z 2000000 → Leaves (read z ∷ []) (z ∷ []) (2000000 ∷ [])
-slope-leaf h = held h ∷ᶜ []ʷ
+pub slope-leaf : {z : ℤ} → Within z 2000000 → Leaves (read w32 z ∷ []) (z ∷ []) (2000000 ∷ [])
+slope-leaf h = read-within w32 h tt ∷ᶜ []ʷ
 
 abbrev pub times : Ex
 times = var 0 ⊗ num (pos spread)
 
 -- K scaled, as its words are read
 abbrev pub scaled-words : Slope → Slope
-scaled-words K = slope-by (word w64 (read (K .rise) ∷ []) times) (word w64 (read (K .run) ∷ []) times)
+scaled-words K = slope-by (word w64 (read w32 (K .rise) ∷ []) times) (word w64 (read w32 (K .run) ∷ []) times)
 
 pub scaled-is : {K : Slope} → fractions.Near K → scaled-words K ≡ scaled K
 scaled-is h = ap₂ slope-by (word-is w64 (slope-leaf (h .rise-near)) times tt) (word-is w64 (slope-leaf (h .run-near)) times tt)
@@ -58,11 +51,11 @@ two-leaves h k = h .east-near ∷ʷ h .north-near ∷ʷ k .east-near ∷ʷ k .no
 
 -- and K's run and rise
 pub excess-leaves : {p q : Stream} {K : Slope} → Near p → Near q → fractions.Near K
-    → Leaves (p .east ∷ p .north ∷ q .east ∷ q .north ∷ read (K .run) ∷ read (K .rise) ∷ [])
+    → Leaves (p .east ∷ p .north ∷ q .east ∷ q .north ∷ read w32 (K .run) ∷ read w32 (K .rise) ∷ [])
     (p .east ∷ p .north ∷ q .east ∷ q .north ∷ K .run ∷ K .rise ∷ [])
     (1000000 ∷ 1000000 ∷ 1000000 ∷ 1000000 ∷ 2000000 ∷ 2000000 ∷ [])
 excess-leaves h j k =
-    h .east-near ∷ʷ h .north-near ∷ʷ j .east-near ∷ʷ j .north-near ∷ʷ held (k .run-near) ∷ᶜ held (k .rise-near) ∷ᶜ []ʷ
+    h .east-near ∷ʷ h .north-near ∷ʷ j .east-near ∷ʷ j .north-near ∷ʷ read-within w32 (k .run-near) tt ∷ᶜ read-within w32 (k .rise-near) tt ∷ᶜ []ʷ
 
 -- ---- a number that is not below 0, cast to an unsigned word
 

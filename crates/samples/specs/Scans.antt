@@ -13,6 +13,7 @@ use mir.Val.{boolByte}
 use lib.Seq.{drop-cons}
 use borrow.Author.Tests.{lt-ltb, le-ltb}
 use Rattle.rules.specs.Lists.{first-place, some-of}
+use Rattle.laws_ranks.specs.Kept.{byte-most}
 use Rattle.laws_outline.specs.ListLaws.{first-place-in, no-first-place}
 
 or-true : (b : Bool) → (b || true) ≡ true
@@ -26,11 +27,6 @@ or-false false = refl
 or-assoc : (a b c : Bool) → ((a || b) || c) ≡ (a || (b || c))
 or-assoc true b c = refl
 or-assoc false b c = refl
-
--- a test cast to a number
-pub byte-most : (b : Bool) → boolByte b ≤ 1
-byte-most true = omega arith
-byte-most false = omega arith
 
 module _ {A : Type 0} (test : A → Bool) where
   -- none of the first i items passes

@@ -3,20 +3,20 @@
 use mathlib.Core.List.{[], _∷_}
 use lib.IntN.{ℤ}
 use mir.Syntax.{w32}
-use mir.Val.{SFits, toZ, ofZ}
-use Rattle.whole.specs.Solver.{var}
-use Rattle.whole.specs.Fits.{Within, Held, Leaves, []ʷ, _∷ʷ_, _∷ᶜ_, value-fits, cast-within}
+use mir.Val.{SFits}
+use Rattle.whole.specs.Fits as fits
+use Rattle.whole.specs.Fits.{Within, Held, Leaves, []ʷ, _∷ᶜ_}
 use Rattle.rules.specs.Streams.{Stream, limit}
 use Rattle.samples.specs.Positions.{Near}
 
 abbrev pub read : ℤ → ℤ
-read z = toZ w32 (ofZ w32 z)
+read = fits.read w32
 
 pub near-fits : {z : ℤ} → Within z limit → SFits w32 z
-near-fits h = value-fits w32 (h ∷ʷ []ʷ) (var 0) tt
+near-fits h = fits.within-fits w32 h tt
 
 pub held : {z : ℤ} → Within z limit → Held (read z) z limit
-held h = cast-within (near-fits h) h
+held h = fits.read-within w32 h tt
 
 -- the parts of two streams, and of three, as the leaves of an expression
 pub two-near : {p q : Stream} → Near p × Near q →

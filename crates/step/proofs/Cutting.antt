@@ -10,8 +10,7 @@ use lib.Signed.{mag}
 use lib.ListN.{length, take, drop, length-map}
 use lib.Seq.{paste, length-paste, length-take-le, take-take, take-all}
 use mir.Syntax.{w32}
-use Rattle.whole.specs.Solver.{var}
-use Rattle.whole.specs.Fits.{[]ʷ, _∷ʷ_, value-fits}
+use Rattle.whole.specs.Fits.{within-fits}
 use Rattle.rules.specs.Picker.{rank}
 use Rattle.picker.specs.Keys.{key-of, number-of, Words}
 use Rattle.picker.specs.KeyLaws.{picked-number}
@@ -39,7 +38,7 @@ module _ {es : List ℤ} {w : List ℕ} {t : ℕ} (asks : CutAsks es w t) where
   easts-words : Words (map (east-of es) list)
   easts-words x m =
       let o = Memᴰ·of-map (east-of es) list m in
-      subst (λ (z : ℤ). mag z < 2 ^ 31) (o .2) (value-fits w32 (asks .near (o .0) ∷ʷ []ʷ) (var 0) tt .sfits)
+      subst (λ (z : ℤ). mag z < 2 ^ 31) (o .2) (within-fits w32 (asks .near (o .0)) tt .sfits)
 
   module _ {now : List ℕ} (pasted : now ≡ paste w t (map (λ x. key-of (east-of es x)) list) t) where
     long : length now ≡ length w

@@ -12,8 +12,7 @@ use lib.ListN.{length, getD, take, drop, set, length-set, length-drop}
 use lib.Seq.{take-all, take-set-le, take-take, take-add, drop-cons, drop-set-add, getD-take, getD-set-same}
 use Rattle.rules.specs.Lists.{those, consIf}
 use Rattle.laws_ranks.specs.Counts.{those-append}
-use Rattle.laws_ranks.specs.Kept.{first-more, stored}
-use Rattle.samples.specs.Scans.{byte-most}
+use Rattle.laws_ranks.specs.Kept.{byte-most, first-more, stored}
 use Rattle.step.specs.NumberLists.{Passed, Beyond, Listing}
 
 module _ (test : ℕ → Bool) (src w : List ℕ) (to : ℕ) where

@@ -189,6 +189,17 @@ and-right : (s t : Bool) → T (s && t) → T t
 and-right true t p = p
 and-right false t p = absurd p
 
+-- what the word of a number is read as: the number, within a bound that the width holds
+abbrev pub read : Width → ℤ → ℤ
+read w z = toZ w (ofZ w z)
+
+module _ (w : Width) {z : ℤ} {B : ℕ} (h : Within z B) (t : T (below w B)) where
+  pub within-fits : SFits w z
+  within-fits = record { sfits = lt-of-le-of-lt (le-trans (mag-abs z) (h .within)) (ltb→lt B (2 ^ hbits w) t) }
+
+  pub read-within : Held (read w z) z B
+  read-within = cast-within within-fits h
+
 module _ (w : Width) {σ ρ : List ℤ} {βs : List ℕ} (l : Leaves σ ρ βs) where
   top : (e : Ex) → T (safe w βs e) → T (below w (bound βs e))
   top (var i) t = t

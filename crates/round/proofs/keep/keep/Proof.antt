@@ -6,7 +6,7 @@ use lib.ListN.{length, length-set}
 use Rattle.slopes.specs.Fractions.{as-slope}
 use Rattle.samples.specs.Positions.{at}
 use Rattle.samples.specs.Samples.{listed-at}
-use Rattle.samples.specs.Scans.{byte-most}
+use Rattle.laws_ranks.specs.Kept.{byte-most}
 use Rattle.round.specs.Keeping.{towards}
 use Rattle.round.proofs.Fronting.{Fronting, fronting-none, fronting-more, fronting-all, fronting-odd, here, next}
 use Rattle.round.proofs.keep.keep.Statement.{statement}
