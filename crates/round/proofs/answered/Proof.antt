@@ -36,20 +36,22 @@ returns c =
 
 returns-2 : tie.Need-returns-2
 returns-2 c =
-    let said = c .before .before .before .before .before .said .given in
+    let found = c .before .before .before .before .before in
+    let said = found .said .given in
     let i = said .0 .0 in
     let j = said .0 .1 .0 in
-    let a = c .before .before .before .before .before .before .before .before .before .args in
+    let a = found .before .before .before .before .args in
     let left = c .before .before .clear in
     subst (λ (x : Said). Answered x (a .output .now) (a .scratch .now) (answer.Found i j) (a .output .now) (left .last .0)) (sym (said .1))
     (found-answered (a .output .now) (a .scratch .now) (left .last .0) (left .ensures) i j)
 
 returns-3 : tie.Need-returns-3
 returns-3 c =
-    let fits = c .before .before .before .before .before .before .before .before .before in
+    let written = c .before .before .before .before .before .before in
+    let fits = written .before .before .before in
     let d = fits .before .before in
     let a = start d .args in
-    let output = c .before .before .before .before .before .before .write in
+    let output = written .write in
     let left = c .before .before .clear3 in
     subst (λ (x : Said). Answered x (a .output .now) (a .scratch .now) (answer.Kept (m d)) (output .last .1 .0) (left .last .0)) (sym (d .said2 .given .1))
     (kept-answered (a .output .now) (a .scratch .now) (left .last .0) (left .ensures) (m d) (inside d) (fits .if1 .left) (output .ensures))

@@ -75,7 +75,8 @@ answered-requires c κs =
 
 returns-2 : tie.Need-returns-2
 returns-2 c =
-    let said = c .before .before .before .before .before .before .before .before .before in
+    let ended = c .before .before .before .before in
+    let said = ended .before .before .before .before .before in
     let o = said .round-of in
     let list = said .before .before .before .before in
     let d = list .before .before in
@@ -87,7 +88,7 @@ returns-2 c =
     passed-promise (a .east .now) (a .north .now) (a .list .now) (a .a) (a .output .now) (a .scratch .now) (passed d) (o .result) left
     (o .kept .1 .1 .1 .1 .0 ∙ as-long (a .scratch .now) (is-ready d) (list .write .ensures))
     (round-here (a .scratch .now) (is-ready d) (list .write .ensures) (a .a) says)
-    (c .before .before .before .before .answered .ensures)
+    (ended .answered .ensures)
 
 pub round-spec : {M : Type 1} → statement M
 round-spec =
@@ -98,7 +99,7 @@ round-spec =
     (λ c. search needs)
     (λ c. search needs)
     write-requires
-    (λ c. step-fits w64 (cast (c .before .before .before .before .before .before .before .before .before .before .fits .a) ∷ᶜ []ʷ) (var 0) tt)
+    (λ c. step-fits w64 (cast (start (c .before .before .before .before) .fits .a) ∷ᶜ []ʷ) (var 0) tt)
     round-of-requires
     answered-requires
     returns

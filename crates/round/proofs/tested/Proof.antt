@@ -55,20 +55,28 @@ module _ (s : tie.Start) where
   few : length es ≤ most → length list ≤ most → t2 .holds ≡ false
   few h k = ap₂ _||_ (le-ltb most (length es) h) (le-ltb most (length list) k)
 
--- what is known past the test for 3, and past the test for 7
+-- what is known at the test for 3
+module _ (c : tie.After-first-beyond) where
+  abbrev lengths : tie.Else1
+  lengths = c .before .before .before
+
+  abbrev start-3 : tie.Start
+  start-3 = lengths .before .before
+
+-- past it, and past the test for 7
 module _ (c : tie.Else4) where
   abbrev start-4 : tie.Start
-  start-4 = c .before .before .before .before .before .before
+  start-4 = start-3 (c .before)
 
   past-3 : (t1 start-4 .holds ≡ false) × ((t2 start-4 .holds ≡ false) × (t3 start-4 .holds ≡ false))
   past-3 =
-      let h = c .before .before .before .before .if1 .left in
+      let h = lengths (c .before) .if1 .left in
       let k = few start-4 (c .before .before .before .if2 .left) (c .before .before .if3 .left) in
       (even start-4 h, (k, place-outside (es start-4) (ns start-4) h (c .before .first-beyond .ensures) (c .if4 .left)))
 
 module _ (c : tie.Else5) where
   abbrev start-5 : tie.Start
-  start-5 = c .before .before .before .before .before .before .before .before
+  start-5 = start-4 (c .before .before)
 
   past-7 : t7 start-5 .holds ≡ false
   past-7 = unlisted-outside (length (es start-5)) (list start-5) (c .before .first-unlisted .ensures) (c .if5 .left)
@@ -94,8 +102,8 @@ returns-3 c =
 
 returns-4 : tie.Need-returns-4
 returns-4 c =
-    let s = c .before .before .before .before .before .before in
-    let h = c .before .before .before .before .if1 .left in
+    let s = start-3 (c .before) in
+    let h = lengths (c .before) .if1 .left in
     let place = c .before .first-beyond .ensures in
     ap (Refused 3) place
     ∙ sym
@@ -105,7 +113,7 @@ returns-4 c =
 
 returns-5 : tie.Need-returns-5
 returns-5 c =
-    let s = c .before .before .before .before .before .before .before .before in
+    let s = start-4 (c .before .before) in
     let p = past-3 (c .before .before) in
     let place = c .before .first-unlisted .ensures in
     ap (Refused 7) place
@@ -115,7 +123,7 @@ returns-5 c =
 
 returns-6 : tie.Need-returns-6
 returns-6 c =
-    let s = c .before .before .before .before .before .before .before .before .before in
+    let s = start-5 (c .before) in
     let p = past-3 (c .before .before .before) in
     sym
     (refused-at (t1 s ∷ t2 s ∷ t3 s ∷ t7 s ∷ []) (t4 s) (t6 s ∷ []) (p .0, (p .1 .0, (p .1 .1, (past-7 (c .before), tt))))
@@ -131,7 +139,7 @@ module _ (c : tie.After-list-spans) where
 
   spans-said : spans (start-6 .args .a) (map (sample (streams (es start-6) (ns start-6))) (list start-6)) ≡ c .list-spans .result
   spans-said =
-      sample-list-span (start-6 .args .a) (es start-6) (ns start-6) (list start-6) (c .before .before .before .before .before .before .before .before .if1 .left)
+      sample-list-span (start-6 .args .a) (es start-6) (ns start-6) (list start-6) (lengths (c .before .before .before .before .before) .if1 .left)
       ∙ ap (λ (z : ℤ). easts-span z (map (east-of (es start-6)) (list start-6))) (sym (toZ-ofZ (start-6 .fits .a)))
       ∙ sym (c .list-spans .ensures)
 

@@ -191,20 +191,22 @@ pivot-pick-requires t c κs =
 
 pivot-same-length-2 : (t : ℕ) → pivot-lts.Need-same-length-2 (pivot-claims t) (pivot-at t) pivot.Post
 pivot-same-length-2 t c =
-    let v = c .before .before .before .before .before .before .few .last .0 in
-    let e = 2 * c .before .before .before .before .before .before .before .before .before .before .args .n in
-    same-len-mid e (length v - e) v (c .before .before .pick .last .0) (c .before .before .pick .kept .0) ∙ c .before .before .before .before .before .before .few .kept .0
+    let d = c .before .before .before .before .before .before in
+    let v = d .few .last .0 in
+    let e = 2 * d .before .before .before .before .args .n in
+    same-len-mid e (length v - e) v (c .before .before .pick .last .0) (c .before .before .pick .kept .0) ∙ d .few .kept .0
 
 pivot-returns-2 : (t : ℕ) → pivot-lts.Need-returns-2 (pivot-claims t) (pivot-at t) pivot.Post
 pivot-returns-2 t c =
-    let s = c .before .before .before .before .before .before .before .before .before .before in
-    let f = c .before .before .before .before .before .before .few in
+    let d = c .before .before .before .before .before .before in
+    let s = d .before .before .before .before in
+    let f = d .few in
     let p = c .before .before .pick in
     let v = f .last .0 in
     let e = 2 * s .args .n in
     let room = s .pre .1 .room in
     let long = f .kept .0 in
-    gathered-pivot (gatherable (s .pre .1) (c .before .before .before .before .before .before .before .before .if1 .left)) (f .kept .0) (f .ensures)
+    gathered-pivot (gatherable (s .pre .1) (d .before .before .if1 .left)) (f .kept .0) (f .ensures)
     (alike-take (take-put e (length v - e) v (p .last .0) (omega arith))) (p .ensures)
 
 pub +pick+pivot-spec : {M : Type 1} → statement M

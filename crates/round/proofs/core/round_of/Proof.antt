@@ -41,10 +41,11 @@ returns c =
 
 keep-requires : tie.Need-keep-requires
 keep-requires c κs =
-    let s = c .before .before .before .before .before .before .before .before in
+    let d = c .before .before .before .before in
+    let s = d .before .before .before .before in
     record {
       sampled = s .pre .sampled;
-      listed = subst (Listed (length (s .args .e .now))) (sym (c .before .before .before .before .slopes .ensures .same-list)) (s .pre .listed);
+      listed = subst (Listed (length (s .args .e .now))) (sym (d .slopes .ensures .same-list)) (s .pre .listed);
       near = level-near;
     }
 

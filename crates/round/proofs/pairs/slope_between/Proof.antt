@@ -39,59 +39,66 @@ module _ {p q : Stream} (hp : Near p) (hq : Near q) where
   east-run : ltZ run (pos 0) ≡ false → pos 0 ≤ℤ (q .east -ℤ p .east)
   east-run e = let s = run-sign e in omega order
 
+-- the start, seen from where the easts are read, and from where the norths are
+abbrev start-run : tie.After-struct-told2 → tie.Start
+start-run c = c .before .before .before .before
+
+abbrev start : tie.After-struct-told4 → tie.Start
+start c = start-run (c .before .before .before .before)
+
 sub-run : tie.Need-sub-run
-sub-run c = let h = c .before .before .before .before .pre in step-fits w64 (two-leaves (h .0) (h .1)) (var 2 ⊖ var 0) tt
+sub-run c = let h = start-run c .pre in step-fits w64 (two-leaves (h .0) (h .1)) (var 2 ⊖ var 0) tt
 
 sub-rise : tie.Need-sub-rise
 sub-rise c =
-    let h = c .before .before .before .before .before .before .before .before .pre in
+    let h = start c .pre in
     step-fits w64 (two-leaves (h .0) (h .1)) (var 3 ⊖ var 1) tt
 
 sub-t6 : tie.Need-sub-t6
 sub-t6 c =
-    let h = c .before .before .before .before .before .before .before .before .before .pre in
+    let h = start (c .before) .pre in
     step-fits w64 (two-leaves (h .0) (h .1)) (num (pos 2000000) ⊖ (var 3 ⊖ var 1)) tt
 
 cast-t7 : tie.Need-cast-t7
 cast-t7 c =
-    let h = c .before .before .before .before .before .before .before .before .before .pre in
+    let h = start (c .before) .pre in
     cast-unsigned (two-leaves (h .0) (h .1)) (num (pos 2000000) ⊖ (var 3 ⊖ var 1)) tt tt (up-to-first (h .0) (h .1))
 
 sub-t8 : tie.Need-sub-t8
 sub-t8 c =
-    let h = c .before .before .before .before .before .before .before .before .before .pre in
+    let h = start (c .before) .pre in
     step-fits w64 (two-leaves (h .0) (h .1)) (⊝ (var 2 ⊖ var 0)) tt
 
 cast-t9 : tie.Need-cast-t9
 cast-t9 c =
-    let h = c .before .before .before .before .before .before .before .before .before .pre in
+    let h = start (c .before) .pre in
     cast-unsigned (two-leaves (h .0) (h .1)) (⊝ (var 2 ⊖ var 0)) tt tt (west-run (h .0) (h .1) (c .if1 .taken))
 
 returns : tie.Need-returns
 returns c =
-    let h = c .before .before .before .before .before .before .before .before .before .pre in
+    let h = start (c .before) .pre in
     let l = two-leaves (h .0) (h .1) in
     subst₂ (PairSlope _ _) (sym (unsigned-is l (num (pos 2000000) ⊖ (var 3 ⊖ var 1)) tt)) (sym (unsigned-is l (⊝ (var 2 ⊖ var 0)) tt))
     (slope-west (h .0) (h .1) (second-west (h .0) (h .1) (c .if1 .taken)))
 
 add-t10 : tie.Need-add-t10
 add-t10 c =
-    let h = c .before .before .before .before .before .before .before .before .before .pre in
+    let h = start (c .before) .pre in
     step-fits w64 (two-leaves (h .0) (h .1)) (num (pos 2000000) ⊕ (var 3 ⊖ var 1)) tt
 
 cast-t11 : tie.Need-cast-t11
 cast-t11 c =
-    let h = c .before .before .before .before .before .before .before .before .before .pre in
+    let h = start (c .before) .pre in
     cast-unsigned (two-leaves (h .0) (h .1)) (num (pos 2000000) ⊕ (var 3 ⊖ var 1)) tt tt (up-to-second (h .0) (h .1))
 
 cast-t12 : tie.Need-cast-t12
 cast-t12 c =
-    let h = c .before .before .before .before .before .before .before .before .before .pre in
+    let h = start (c .before) .pre in
     cast-unsigned (two-leaves (h .0) (h .1)) (var 2 ⊖ var 0) tt tt (east-run (h .0) (h .1) (c .if1 .left))
 
 returns-2 : tie.Need-returns-2
 returns-2 c =
-    let h = c .before .before .before .before .before .before .before .before .before .pre in
+    let h = start (c .before) .pre in
     let l = two-leaves (h .0) (h .1) in
     subst₂ (PairSlope _ _) (sym (unsigned-is l (num (pos 2000000) ⊕ (var 3 ⊖ var 1)) tt)) (sym (unsigned-is l (var 2 ⊖ var 0) tt))
     (⊎-elim (slope-east (h .0) (h .1)) (no-slope (h .0) (h .1)) (≤ℤ-split (second-east (h .0) (h .1) (c .if1 .left))))

@@ -30,25 +30,35 @@ module _ (d : tie.After-position-of) where
       let p = subst Near (sym (d .position-of .ensures)) (near-at (start .pre .0) (start .args .lower) (start .args .x)) in
       k .run-near ∷ʷ p .north-near ∷ʷ k .rise-near ∷ʷ p .east-near ∷ʷ []ʷ
 
+-- the position, seen from where two of its parts are read, three and four
+abbrev position-2 : tie.After-struct-told2 → tie.After-position-of
+position-2 c = c .before .before .before .before
+
+abbrev position-3 : tie.After-struct-told3 → tie.After-position-of
+position-3 c = position-2 (c .before .before)
+
+abbrev position-4 : tie.After-struct-told4 → tie.After-position-of
+position-4 c = position-3 (c .before .before)
+
 mul-h : tie.Need-mul-h
 mul-h c = step-fits w64 (leaves (c .before .before)) (var 0 ⊗ var 1) tt
 
 mul-h-2 : tie.Need-mul-h-2
-mul-h-2 c = step-fits w64 (leaves (c .before .before .before .before)) (var 2 ⊗ var 3) tt
+mul-h-2 c = step-fits w64 (leaves (position-2 c)) (var 2 ⊗ var 3) tt
 
 sub-h : tie.Need-sub-h
-sub-h c = step-fits w64 (leaves (c .before .before .before .before)) high tt
+sub-h c = step-fits w64 (leaves (position-2 c)) high tt
 
 sub-t9 : tie.Need-sub-t9
-sub-t9 c = step-fits w64 (leaves (c .before .before .before .before .before .before)) (high ⊖ var 3) tt
+sub-t9 c = step-fits w64 (leaves (position-3 c)) (high ⊖ var 3) tt
 
 add-t10 : tie.Need-add-t10
-add-t10 c = step-fits w64 (leaves (c .before .before .before .before .before .before .before .before)) (high ⊕ var 3) tt
+add-t10 c = step-fits w64 (leaves (position-4 c)) (high ⊕ var 3) tt
 
 returns : tie.Need-returns
 unfolding height
 returns c =
-    let d = c .before .before .before .before .before .before .before .before in
+    let d = position-4 c in
     let k = slope-by (d .before .args .rise) (d .before .args .run) in
     record {
       west-is = word-is w64 (leaves d) (high ⊖ var 3) tt ∙ ap (key negℤ k) (d .position-of .ensures);

@@ -41,9 +41,12 @@ cast-run c = step-fits w64 (slope-leaf (c .before .before .before .before .befor
 mul-run : tie.Need-mul-run Inv-loop μ-loop
 mul-run c = step-fits w64 (slope-leaf (c .before .before .before .before .before .pre .near .run-near)) times tt
 
--- the start, seen from the loop
+-- the start, seen from where the first keys are found, and from the loop
+abbrev start-keys : tie.After-keys-of Inv-loop μ-loop → tie.Start Inv-loop μ-loop
+start-keys d = d .before .before .before .before .before .before .before
+
 abbrev start : tie.At-loop Inv-loop μ-loop → tie.Start Inv-loop μ-loop
-start l = l .before .before .before .before .before .before .before .before .before .before
+start l = start-keys (l .before .before .before)
 
 module _ (s : tie.Start Inv-loop μ-loop) where
   abbrev places : ℕ → Stream
@@ -68,7 +71,7 @@ keys-of-requires c κs =
 loop-holds : tie.Need-loop-holds Inv-loop μ-loop
 loop-holds c =
     let d = c .before .before in
-    let s = d .before .before .before .before .before .before .before in
+    let s = start-keys d in
     let r = d .keys-of .result in
     let k = d .keys-of .ensures in
     let many = s .pre .some in (

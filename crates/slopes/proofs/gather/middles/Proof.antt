@@ -41,11 +41,13 @@ loop-less c = omega arith
 
 loop-again : tie.Need-loop-again Inv-loop μ-loop
 loop-again c =
-    let s = c .before .before .before .before .before .before .before .before .before in
-    let l = c .before .before .before .before .before .before .before .loop in
+    let found = c .before .before .before .before in
+    let at-loop = found .before .before .before in
+    let s = at-loop .before .before in
+    let l = at-loop .loop in
     let long = l .inv .1 .long in
     let room = s .pre .room in
-    let m = c .before .before .before .before .middle .ensures in (
+    let m = found .middle .ensures in (
       omega arith,
       subst (λ (v : List ℕ). Gathering (s .args .n) (s .args .w .now) v (l .i + 1)) (sym (c .before .before .copy .ensures))
           (gathering-more (l .inv .1) (omega arith) (omega arith)),

@@ -45,8 +45,9 @@ loop-less c = omega arith
 
 loop-again : tie.Need-loop-again Inv-loop μ-loop
 loop-again c =
-    let s = c .before .before .before .before .before .before .before .before in
-    let l = c .before .before .before .before .before .loop in
+    let at-loop = c .before .before .before .before .before in
+    let s = at-loop .before .before .before in
+    let l = at-loop .loop in
     let long = l .inv .3 .long in
     let room = s .pre .room in (
       omega arith,

@@ -31,8 +31,9 @@ returns-2 c =
 
 front-requires : tie.Need-front-requires
 front-requires c κs =
-    let p = c .before .before .before .before .before .part in
-    let s = c .before .before .before .before .before .before .before .before in
+    let parted = c .before .before .before .before .before in
+    let p = parted .part in
+    let s = parted .before .before .before in
     let room = s .pre .0 .room in
     let long = p .kept .0 in
     let most = counted-most (p .ensures .counted) in

@@ -22,6 +22,19 @@ Inv-loop w₀ n p below₀ above₀ i₀ w below above i = (i ≤ n) × Parting 
 abbrev μ-loop : tie.MeasureT-loop
 μ-loop w₀ n p below₀ above₀ i₀ w below above i = n - i
 
+-- the start, seen from the loop; the loop, from where a slope is read; and that, from behind its two copies
+abbrev start : tie.At-loop Inv-loop μ-loop → tie.Start Inv-loop μ-loop
+start l = l .before .before
+
+abbrev at-loop : tie.After-slope-at Inv-loop μ-loop → tie.At-loop Inv-loop μ-loop
+at-loop s = s .before .before .before
+
+abbrev first-copy : tie.After-slice-known2 Inv-loop μ-loop → tie.After-slope-at Inv-loop μ-loop
+first-copy c = c .before .before .before .before
+
+abbrev both-copies : tie.After-slice-known3 Inv-loop μ-loop → tie.After-slope-at Inv-loop μ-loop
+both-copies c = first-copy (c .before .before .before .before)
+
 loop-holds : tie.Need-loop-holds Inv-loop μ-loop
 loop-holds c = let a = c .before .args in (omega arith, parting-none (a .n) (a .w .now) (as-slope (a .p)))
 
@@ -30,8 +43,8 @@ slope-at-requires c κs = stands-here (c .before .before .before .before .pre .0
 
 add-copy : tie.Need-add-copy Inv-loop μ-loop
 add-copy c =
-    let l = c .before .before .before .before .loop in
-    omega (arith, counted-most (l .inv .1 .counted), c .before .before .before .before .before .before .pre .0 .room)
+    let l = at-loop (c .before) in
+    omega (arith, counted-most (l .loop .inv .1 .counted), start l .pre .0 .room)
 
 copy-requires : tie.Need-copy-requires Inv-loop μ-loop
 copy-requires c κs =
@@ -43,38 +56,39 @@ copy-requires c κs =
 copy-requires-2 : tie.Need-copy-requires-2 Inv-loop μ-loop
 copy-requires-2 c κs =
     let e = c .before .before .before in
-    let all = e .before .before .before .before .before .before .before .pre .0 in
-    let l = e .before .before .before .before .before .loop in
-    let t = e .before .before .before .before .loop-test .taken in (
+    let s = e .before .before in
+    let all = start (at-loop s) .pre .0 in
+    let l = at-loop s .loop in
+    let t = s .before .before .loop-test .taken in (
       subst (λ (v : List ℕ). 2 * l .i + 1 < length v) (sym (e .copy .ensures)) (inside-once all (l .inv .1) t),
       subst (λ (v : List ℕ). 2 * l .below + 1 < length v) (sym (e .copy .ensures)) (inside-below all (l .inv .1) t),
     )
 
 less-requires : tie.Need-less-requires Inv-loop μ-loop
 less-requires c κs =
-    let s = c .before .before .before .before .before .before .before .before in
-    (s .slope-at .ensures .near, s .before .before .before .before .before .pre .1)
+    let s = both-copies c in
+    (s .slope-at .ensures .near, start (at-loop s) .pre .1)
 
 cast-below : tie.Need-cast-below Inv-loop μ-loop
 cast-below c = tt
 
 add-below : tie.Need-add-below Inv-loop μ-loop
 add-below c =
-    let s = c .before .before .before .before .before .before .before .before .before in
-    omega (arith, byte-most (c .less .result), counted-most (s .before .before .before .loop .inv .1 .counted), s .before .before .before .before .before .pre .0 .room)
+    let l = at-loop (both-copies (c .before)) in
+    omega (arith, byte-most (c .less .result), counted-most (l .loop .inv .1 .counted), start l .pre .0 .room)
 
 less-requires-2 : tie.Need-less-requires-2 Inv-loop μ-loop
 less-requires-2 c κs =
-    let s = c .before .before .before .before .before .before .before .before .before in
-    (s .before .before .before .before .before .pre .1, s .slope-at .ensures .near)
+    let s = both-copies (c .before) in
+    (start (at-loop s) .pre .1, s .slope-at .ensures .near)
 
 cast-above : tie.Need-cast-above Inv-loop μ-loop
 cast-above c = tt
 
 add-above : tie.Need-add-above Inv-loop μ-loop
 add-above c =
-    let s = c .before .before .before .before .before .before .before .before .before .before in
-    omega (arith, byte-most (c .less2 .result), counted-most (s .before .before .before .loop .inv .1 .counted), s .before .before .before .before .before .pre .0 .room)
+    let l = at-loop (both-copies (c .before .before)) in
+    omega (arith, byte-most (c .less2 .result), counted-most (l .loop .inv .1 .counted), start l .pre .0 .room)
 
 add-i : tie.Need-add-i Inv-loop μ-loop
 add-i c = omega arith
@@ -87,8 +101,8 @@ loop-again c =
     let second = c .before .before .before .before in
     let first = second .before .before .before .before in
     let s = first .before .before in
-    let l = s .before .before .before .loop in
-    let from = s .before .before .before .before .before in
+    let l = at-loop s .loop in
+    let from = start (at-loop s) in
     let a = from .args in
     let p = as-slope (a .p) in
     let below = c .before .less in
