@@ -1,12 +1,11 @@
 -- The last test of an entry that writes a ring, and what it leaves: a ring of n corners is written, or an output is too short for it. Assumes nothing.
 use mathlib.Core.Path.{_≡_, refl, sym, ap, ap₂, _∙_, subst}
-use mathlib.Core.Bool.{Bool, true, false, cond, _||_, or-true}
+use mathlib.Core.Bool.{Bool, true, false, cond, _||_}
 use mathlib.Core.List.{List, _++_, map}
-use Prim.Native.Nat.{ℕ, _≤_, _<_}
+use Prim.Native.Nat.{ℕ}
 use lib.IntN.{ℤ}
 use lib.Dec.{ltb}
 use lib.ListN.{length, drop}
-use borrow.Author.Tests.{lt-ltb, le-ltb}
 use Rattle.rules.specs.Lists.{written, zeros}
 use Rattle.rules.specs.Streams.{Stream}
 use Rattle.rules.specs.Refusals.{Answer, refused, done}
@@ -24,19 +23,11 @@ module _ (R : List Stream) (f : ℕ → Stream) (n : ℕ) (e : R ≡ listed f n)
   told b h = ap (λ (t : Bool). cond t (refused 5 0) (done R)) (sym h ∙ sym (ap (λ (m : ℕ). ltb (length east) m || ltb (length north) m) count))
 
   -- an output is too short
-  short : {scratch' : List ℕ} → (ltb (length east) n || ltb (length north) n) ≡ true → scratch' ≡ zeros scratch
+  pub outcome-short : {scratch' : List ℕ} → (ltb (length east) n || ltb (length north) n) ≡ true → scratch' ≡ zeros scratch
       → Outcome (unless-short east north R) (counts.Refused 5 0) east east north north scratch scratch'
-  short {scratch'} h z =
+  outcome-short {scratch'} h z =
       subst (λ (a : Answer (List Stream)). Outcome a (counts.Refused 5 0) east east north north scratch scratch') (told true h)
       (record { says = refl; east-after = refl; north-after = refl; scratch-is = z })
-
-  pub outcome-east-short : {scratch' : List ℕ} → length east < n → scratch' ≡ zeros scratch
-      → Outcome (unless-short east north R) (counts.Refused 5 0) east east north north scratch scratch'
-  outcome-east-short h z = short (ap (λ (b : Bool). b || ltb (length north) n) (lt-ltb (length east) n h)) z
-
-  pub outcome-north-short : {scratch' : List ℕ} → length north < n → scratch' ≡ zeros scratch
-      → Outcome (unless-short east north R) (counts.Refused 5 0) east east north north scratch scratch'
-  outcome-north-short h z = short (ap (λ (b : Bool). ltb (length east) n || b) (lt-ltb (length north) n h) ∙ or-true (ltb (length east) n)) z
 
   -- a part of each corner is written
   parts : (part : Stream → ℤ) (old : List ℤ) → listed (λ i. part (f i)) n ++ drop n old ≡ written (map part R) old
@@ -44,12 +35,12 @@ module _ (R : List Stream) (f : ℕ → Stream) (n : ℕ) (e : R ≡ listed f n)
       ap₂ (λ (l : List ℤ) (m : ℕ). l ++ drop m old) (sym (ap (map part) e ∙ map-listed part f n))
       (sym (ap length (ap (map part) e ∙ map-listed part f n) ∙ length-listed (λ i. part (f i)) n))
 
-  pub outcome-done : {east' north' : List ℤ} {scratch' : List ℕ} → n ≤ length east → n ≤ length north
+  pub outcome-done : {east' north' : List ℤ} {scratch' : List ℕ} → (ltb (length east) n || ltb (length north) n) ≡ false
       → east' ≡ listed (λ i. f i .east) n ++ drop n east → north' ≡ listed (λ i. f i .north) n ++ drop n north → scratch' ≡ zeros scratch
       → Outcome (unless-short east north R) (counts.Count n) east east' north north' scratch scratch'
-  outcome-done {east'} {north'} {scratch'} h k p q z =
+  outcome-done {east'} {north'} {scratch'} h p q z =
       subst (λ (a : Answer (List Stream)). Outcome a (counts.Count n) east east' north north' scratch scratch')
-      (told false (ap₂ _||_ (le-ltb (length east) n h) (le-ltb (length north) n k)))
+      (told false h)
       (record {
         says = ap done (sym count);
         east-after = p ∙ parts (λ s. s .east) east;

@@ -9,6 +9,7 @@ ghost use Rattle.closing.specs.RingOutcome.{unless-short, Outcome};
 use crate::lower::left_in;
 use crate::writing::put;
 use samples::answers::Counted;
+use samples::tests::too_short;
 use samples::words::clear;
 
 mod lower;
@@ -39,14 +40,7 @@ pub fn close(
     let k = left_in(east, north, east2, north2, scratch, u, l);
     let hi = k.hi;
     let n = u + (hi - k.lo);
-    if out_east.len() < n {
-        clear(scratch);
-        return Counted::Refused {
-            number: 5,
-            place: 0,
-        };
-    }
-    if out_north.len() < n {
+    if too_short(out_east.len(), out_north.len(), n) {
         clear(scratch);
         return Counted::Refused {
             number: 5,

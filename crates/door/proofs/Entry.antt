@@ -1,9 +1,11 @@
 -- The outcome of the door over two lists in each of the code's cases: its answer, and the content of both outputs afterwards.
 -- Assumes nothing.
 use mathlib.Core.Path.{_≡_, refl, sym, _∙_}
+use mathlib.Core.Bool.{true, false, _||_}
 use mathlib.Core.Logic.{inl}
 use mathlib.Core.List.{List}
 use Prim.Native.Nat.{_≤_, _<_}
+use lib.Dec.{ltb}
 use lib.IntN.{ℤ}
 use lib.ListN.{length}
 use lib.Ieee.{Float}
@@ -50,22 +52,12 @@ module _ (es ns : List Float) (east north : List ℤ) where
     bad-reading (RefusedFloat number place x) e k = unaltered (RefusedFloat number place x) k (sym (by-readings (bad-float number place x) (sym e)))
 
     module _ (all : readings 0 es ns ≡ taken (wholes es) (wholes ns)) where
-      pub east-short : length east < length es → Outcome (Refused 5 0) east north
-      east-short h =
-          unaltered (Refused 5 0) (inl refl)
-          (sym (by-readings (taken (wholes es) (wholes ns)) all ∙ rw (length-wholes es, lt-ltb (length east) (length es) h)))
+      pub short : (ltb (length east) (length es) || ltb (length north) (length es)) ≡ true → Outcome (Refused 5 0) east north
+      short h = unaltered (Refused 5 0) (inl refl) (sym (by-readings (taken (wholes es) (wholes ns)) all ∙ rw (length-wholes es, h)))
 
-      pub north-short : length es ≤ length east → length north < length es → Outcome (Refused 5 0) east north
-      north-short g h =
-          unaltered (Refused 5 0) (inl refl)
-          (sym
-          (by-readings (taken (wholes es) (wholes ns)) all
-          ∙ rw (length-wholes es, le-ltb (length east) (length es) g, lt-ltb (length north) (length es) h)))
-
-      pub all-taken : length es ≤ length east → length es ≤ length north → Outcome (Done (length es)) (written (wholes es) east) (written (wholes ns) north)
-      all-taken g h = rw (done, all) (refl, (refl, refl))
+      pub all-taken : (ltb (length east) (length es) || ltb (length north) (length es)) ≡ false →
+          Outcome (Done (length es)) (written (wholes es) east) (written (wholes ns) north)
+      all-taken h = rw (done, all) (refl, (refl, refl))
         where
           done : door-answer es ns east north ≡ door-done (length es)
-          done =
-              by-readings (taken (wholes es) (wholes ns)) all
-              ∙ rw (length-wholes es, le-ltb (length east) (length es) g, le-ltb (length north) (length es) h)
+          done = by-readings (taken (wholes es) (wholes ns)) all ∙ rw (length-wholes es, h)

@@ -8,12 +8,11 @@ ghost use Rattle.rules.specs.Lists.{written};
 ghost use Rattle.rules.specs.Door.{part, readings};
 ghost use Rattle.rules.specs.Entries.{door-answer, door-output-after, taken-east, taken-north};
 ghost use Rattle.door.specs.DoorAnswers.{part-as, door-as, refusal-of, whole-of, first-refusal, wholes, readings-as};
+use samples::tests::MOST;
+use samples::tests::too_short;
 
 // each part lies from -LIMIT to LIMIT
 const LIMIT: f64 = 1000000.0;
-
-// at most so many readings
-const MOST: usize = 65536;
 
 // What the door makes of one float.
 pub enum PartAnswer {
@@ -176,10 +175,7 @@ pub fn take_readings(es: &[f64], ns: &[f64], east: &mut [i32], north: &mut [i32]
     let ReadingsAnswer::Done(_) = found else {
         return found;
     };
-    if east.len() < count {
-        return refused(5);
-    }
-    if north.len() < count {
+    if too_short(east.len(), north.len(), count) {
         return refused(5);
     }
     write_wholes(es, east);

@@ -17,6 +17,7 @@ use samples::answers::Counted;
 use samples::streams::at;
 use samples::streams::leftmost;
 use samples::tests::Tested;
+use samples::tests::too_short;
 
 // The first place of the corner with the greatest east and, among those, the least north.
 fn entry(east: &[i32], north: &[i32]) -> usize
@@ -72,13 +73,7 @@ pub fn turn_about(
             return Counted::Refused { number, place };
         }
     }
-    if out_east.len() < east.len() {
-        return Counted::Refused {
-            number: 5,
-            place: 0,
-        };
-    }
-    if out_north.len() < east.len() {
+    if too_short(out_east.len(), out_north.len(), east.len()) {
         return Counted::Refused {
             number: 5,
             place: 0,

@@ -4,9 +4,7 @@
 ghost use mathlib.Core.Path.{_≡_};
 ghost use Rattle.rules.specs.Entries.{hand-answer, hand-step-answer, hand-after};
 ghost use Rattle.hand.specs.HandAnswers.{hand-at, made-as, edge-as};
-
-// at most so many corners
-const MOST: usize = 65536;
+use samples::tests::MOST;
 
 pub struct Hand {
     pub count: usize,

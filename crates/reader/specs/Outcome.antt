@@ -1,7 +1,7 @@
 -- The outcome of reading a record, test by test in the rules' order.
 -- Assumes nothing.
 use mathlib.Core.Path.{_≡_, refl, sym, ap, _∙_}
-use mathlib.Core.Bool.{Bool, true, false, cond, not, true≢false}
+use mathlib.Core.Bool.{Bool, true, false, cond, not, _||_, true≢false}
 use mathlib.Core.List.{List, [], _∷_}
 use Prim.Native.Nat.{ℕ, _≤_, _<_}
 use native.Mathlib.Omega.{arith}
@@ -89,18 +89,19 @@ module _ (bs : List ℕ) (es ns : List ℤ) where
         refused-9 e = not-beyond ∙ rw e refl
 
         module _ (is : envelope (record-corners bs) ≡ true) where
-          pub east-short : length es < length (record-corners bs) → record-answer bs es ns ≡ refused 5 0
+          is-one : record-answer bs es ns ≡ unless (ring-short es ns corners ∷ []) corners
           unfolding corners last-tests
-          east-short h = not-beyond ∙ rw (is, lt-ltb (length es) (length corners) h) refl
+          is-one = not-beyond ∙ rw is refl
 
-          pub north-short : length (record-corners bs) ≤ length es → length ns < length (record-corners bs) → record-answer bs es ns ≡ refused 5 0
-          unfolding corners last-tests
-          north-short l h = not-beyond ∙ rw (is, le-ltb (length es) (length corners) l, lt-ltb (length ns) (length corners) h) refl
+          pub short : (ltb (length es) (length (record-corners bs)) || ltb (length ns) (length (record-corners bs))) ≡ true →
+              record-answer bs es ns ≡ refused 5 0
+          unfolding corners
+          short h = is-one ∙ refuses (ring-short es ns corners) [] corners h
 
-          pub answered : length (record-corners bs) ≤ length es → length (record-corners bs) ≤ length ns →
+          pub answered : (ltb (length es) (length (record-corners bs)) || ltb (length ns) (length (record-corners bs))) ≡ false →
               record-answer bs es ns ≡ done (record-corners bs)
-          unfolding corners last-tests
-          answered l h = not-beyond ∙ rw (is, le-ltb (length es) (length corners) l, le-ltb (length ns) (length corners) h) refl
+          unfolding corners
+          answered h = is-one ∙ passes (ring-short es ns corners) [] corners h
 
 -- ---- what a good frame says
 

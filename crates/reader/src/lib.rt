@@ -19,6 +19,7 @@ use samples::streams::beyond;
 use samples::streams::leftmost;
 use samples::streams::strictly_right;
 use samples::tests::MOST;
+use samples::tests::too_short;
 
 // The corners of a record at the front of the two outputs. A refusal alters neither.
 pub fn read_record(bytes: &[u8], east: &mut [i32], north: &mut [i32]) -> Counted
@@ -47,13 +48,7 @@ pub fn read_record(bytes: &[u8], east: &mut [i32], north: &mut [i32]) -> Counted
             place: 0,
         };
     }
-    if east.len() < n {
-        return Counted::Refused {
-            number: 5,
-            place: 0,
-        };
-    }
-    if north.len() < n {
+    if too_short(east.len(), north.len(), n) {
         return Counted::Refused {
             number: 5,
             place: 0,

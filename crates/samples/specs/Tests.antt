@@ -1,7 +1,7 @@
 -- The rules' tests in order, as an entry makes them: the first that holds refuses, and where none does they are passed.
 -- Assumes nothing.
 use mathlib.Core.Path.{_≡_, refl, sym, ap, _∙_}
-use mathlib.Core.Bool.{Bool, true, false, cond, not, _&&_, _||_}
+use mathlib.Core.Bool.{Bool, true, false, cond, not, _&&_, _||_, true≢false}
 use mathlib.Core.List.{List, [], _∷_, _++_}
 use Prim.Native.Nat.{ℕ, _+_, _*_, _≤_}
 use native.Mathlib.Omega.{arith}
@@ -104,6 +104,14 @@ module _ {A : Type 0} (t : Test) (ts : List Test) (x : A) where
 
   pub passes : t .holds ≡ false → unless (t ∷ ts) x ≡ unless ts x
   passes e = rw e
+
+-- where neither output is too short for n items, both have room for them
+pub fits-both : (east north n : ℕ) → (ltb east n || ltb north n) ≡ false → (n ≤ east) × (n ≤ north)
+fits-both east north n e = go (ltb east n) refl e
+  where
+    go : (b : Bool) → ltb east n ≡ b → (b || ltb north n) ≡ false → (n ≤ east) × (n ≤ north)
+    go true p f = absurd (true≢false f)
+    go false p f = (ltb-false east n p, ltb-false north n f)
 
 -- no number among them is 5 or 18, after which scratch is zero
 abbrev pub quiet : List Test → Bool

@@ -1,5 +1,5 @@
 // The tests of samples.
-ghost use mathlib.Core.Bool.{not, _&&_};
+ghost use mathlib.Core.Bool.{not, _&&_, _||_};
 ghost use mathlib.Core.List.{map};
 ghost use mathlib.Core.Path.{_≡_};
 ghost use lib.Dec.{leb, ltb};
@@ -91,6 +91,16 @@ pub fn of_samples(e: &[i32], n: &[i32], room: usize) -> Tested
             Tested::Passed
         }
     }
+}
+
+// Either output is too short for so many items.
+pub fn too_short(east: usize, north: usize, n: usize) -> bool
+    ensures { λ r. ⌜ r ≡ (ltb east n || ltb north n) ⌝ }
+{
+    if east < n {
+        return true;
+    }
+    north < n
 }
 
 // The first place of the list with a number not below the count, or the list's length where there is none.

@@ -1,12 +1,14 @@
 -- A text read line by line: what the lines read so far gave, and what that says of the whole text.
 -- Assumes nothing.
 use mathlib.Core.Path.{_≡_, refl, sym, ap, _∙_}
+use mathlib.Core.Bool.{true, _||_}
 use mathlib.Core.Option.{Option, none, some}
 use mathlib.Core.List.{List, [], _∷_, _++_, append-assoc, append-nil}
 use Prim.Native.Nat.{ℕ, zero, suc, _+_, _-_, _≤_, _<_}
 use native.Mathlib.Numerals.{add-one}
 use native.Mathlib.Omega.{arith}
-use borrow.Author.Tests.{lt-ltb, le-ltb}
+use borrow.Author.Tests.{le-ltb}
+use lib.Dec.{ltb}
 use lib.IntN.{ℤ}
 use lib.ListN.{length, drop, length-append, drop-of-length-le}
 use lib.Seq.{drop-cons}
@@ -191,17 +193,9 @@ module _ (bs : List ℕ) (es ns : List ℤ) where
       (simp (le-ltb (length es) (length (f .all)) (f .east-room), le-ltb (length ns) (length (f .all)) (f .north-room)) refl)
 
   module _ (n : ℕ) (decided : done n ≡ counted (samples bs)) where
-    pub east-short : length es < n → samples-answer bs es ns ≡ refused 5 0
+    pub short : (ltb (length es) n || ltb (length ns) n) ≡ true → samples-answer bs es ns ≡ refused 5 0
     unfolding samples-answer
-    east-short h =
-        let g = good-text n decided in
-        rw (g .1) (simp (lt-ltb (length es) (length (g .0)) (omega (arith, g .2))) refl)
-
-    pub north-short : n ≤ length es → length ns < n → samples-answer bs es ns ≡ refused 5 0
-    unfolding samples-answer
-    north-short l h =
-        let g = good-text n decided in
-        rw (g .1) (simp (le-ltb (length es) (length (g .0)) (omega (arith, g .2)), lt-ltb (length ns) (length (g .0)) (omega (arith, g .2))) refl)
+    short h = let g = good-text n decided in rw (g .1, ← g .2, h) refl
 
     pub fit : n ≤ length es → n ≤ length ns → Fit bs es ns
     fit l h =

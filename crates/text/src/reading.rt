@@ -12,6 +12,7 @@ ghost use Rattle.text.specs.Digits.{digits-after};
 ghost use Rattle.samples.specs.CountedAnswers.{counted-as};
 ghost use Rattle.text.specs.TextAnswers.{samples-answer, unsigned-as, Small, number-as, line-as, NextLine, Fit};
 use samples::answers::Counted;
+use samples::tests::too_short;
 
 const NEWLINE: u8 = 10;
 
@@ -59,13 +60,7 @@ pub fn samples(text: &[u8], east: &mut [i32], north: &mut [i32]) -> Counted
     match decide(text) {
         Counted::Refused { number, place } => Counted::Refused { number, place },
         Counted::Count(count) => {
-            if east.len() < count {
-                return Counted::Refused {
-                    number: 5,
-                    place: 0,
-                };
-            }
-            if north.len() < count {
+            if too_short(east.len(), north.len(), count) {
                 return Counted::Refused {
                     number: 5,
                     place: 0,

@@ -1,12 +1,17 @@
 -- `door::take_readings` meets its contract: each return is a case of its outcome, in the order of the tests.
 -- Assumes nothing.
 use mathlib.Core.Path.{_≡_, sym, ap, _∙_}
+use mathlib.Core.Bool.{Bool, _||_}
+use Prim.Native.Nat.{_≤_}
 use native.Mathlib.Omega.{arith}
+use lib.Dec.{ltb}
+use lib.ListN.{length}
 use denote.Ref.{now}
 use borrow.Author.Needs.{needs}
 use Rattle.rules.specs.Door.{taken, readings}
+use Rattle.samples.specs.Tests.{fits-both}
 use Rattle.door.specs.DoorAnswers.{wholes, readings-as}
-use Rattle.door.proofs.Entry.{lengths-differ, too-many, bad-reading, east-short, north-short, all-taken}
+use Rattle.door.proofs.Entry.{lengths-differ, too-many, bad-reading, short, all-taken}
 use Rattle.door.proofs.take_readings.Statement.{statement}
 use Rattle.door.proofs.take_readings.Tie as tie
 
@@ -35,29 +40,36 @@ all-are c =
     let a = c .before .before .before .before .before .before .before .args in
     sym (c .before .before .first-bad .ensures) ∙ ap (readings-as (wholes (now (a .es))) (wholes (now (a .ns)))) (c .enum-told .given .1)
 
+-- what the test of the outputs says
+decided : (c : tie.After-too-short) {b : Bool} → c .too-short .result ≡ b →
+    let a = c .before .before .before .before .before .before .before .before .args in
+    (ltb (length (now (a .east))) (length (now (a .es))) || ltb (length (now (a .north))) (length (now (a .es)))) ≡ b
+decided c e = sym (c .too-short .ensures) ∙ e
+
 returns-4 : tie.Need-returns-4
 returns-4 c =
-    let a = c .before .before .before .before .before .before .before .before .before .args in
+    let test = c .before .before in
+    let a = test .before .before .before .before .before .before .before .before .args in
     rw (c .refused3 .ensures)
-    (east-short (now (a .es)) (now (a .ns)) (now (a .east)) (now (a .north)) (omega arith) (omega arith) (all-are (c .before .before)) (omega arith))
+    (short (now (a .es)) (now (a .ns)) (now (a .east)) (now (a .north)) (omega arith) (omega arith) (all-are (test .before))
+    (decided test (c .before .if3 .taken)))
+
+-- both outputs have room
+room : (c : tie.Else3) →
+    let a = c .before .before .before .before .before .before .before .before .before .args in
+    (length (now (a .es)) ≤ length (now (a .east))) × (length (now (a .es)) ≤ length (now (a .north)))
+room c =
+    let a = c .before .before .before .before .before .before .before .before .before .args in
+    fits-both (length (now (a .east))) (length (now (a .north))) (length (now (a .es))) (decided (c .before) (c .if3 .left))
 
 returns-5 : tie.Need-returns-5
 returns-5 c =
-    let a = c .before .before .before .before .before .before .before .before .before .before .args in
-    rw (c .refused4 .ensures)
-    (north-short (now (a .es)) (now (a .ns)) (now (a .east)) (now (a .north)) (omega arith) (omega arith) (all-are (c .before .before .before))
-    (omega arith)
-    (omega arith))
-
-returns-6 : tie.Need-returns-6
-returns-6 c =
     let past-tests = c .before .before .before .before .before .before in
-    let a = past-tests .before .before .before .before .before .before .before .before .before .args in
+    let test = past-tests .before in
+    let a = test .before .before .before .before .before .before .before .before .args in
     let o =
-    all-taken (now (a .es)) (now (a .ns)) (now (a .east)) (now (a .north)) (omega (arith, past-tests)) (omega (arith, past-tests))
-    (all-are (past-tests .before .before))
-    (omega (arith, past-tests))
-    (omega (arith, past-tests)) in
+    all-taken (now (a .es)) (now (a .ns)) (now (a .east)) (now (a .north)) (omega (arith, past-tests)) (omega (arith, past-tests)) (all-are (test .before))
+    (decided test (past-tests .if3 .left)) in
     (o .0, (c .before .before .before .before .write-wholes .ensures ∙ o .1 .0, c .before .write-wholes2 .ensures ∙ o .1 .1))
 
 pub take-readings-spec : {M : Type 1} → statement M
@@ -72,11 +84,10 @@ take-readings-spec =
     (λ c. search needs)
     returns-3
     (λ c κs. search needs)
+    (λ c κs. search needs)
     returns-4
-    (λ c κs. search needs)
-    returns-5
-    (λ c κs. search needs)
-    (λ c κs. search needs)
+    (λ c κs. room (c .before) .0)
+    (λ c κs. omega (arith, room (c .before .before .before .before) .1))
     (λ c. search needs)
     (λ c. search needs)
-    returns-6)
+    returns-5)

@@ -1,11 +1,12 @@
 -- `reader::read_record` meets its contract: each return is the rules' tests in the order in which the code makes them.
 -- Assumes nothing.
 use mathlib.Core.Path.{_≡_, refl, sym, ap, _∙_}
-use mathlib.Core.Bool.{true, false}
-use Prim.Native.Nat.{_≤_}
+use mathlib.Core.Bool.{Bool, true, false, _||_}
+use Prim.Native.Nat.{ℕ, _≤_}
 use native.Mathlib.Omega.{arith}
 use borrow.Author.Needs.{needs}
 use borrow.Author.Tests.{not-true, not-false}
+use lib.Dec.{ltb}
 use lib.ListN.{length}
 use Rattle.rules.specs.Lists.{some-of}
 use Rattle.rules.specs.Streams.{most, beyond}
@@ -13,9 +14,10 @@ use Rattle.rules.specs.Use.{envelope}
 use Rattle.rules.specs.Refusals.{done}
 use Rattle.rules.specs.Entries.{record-corners}
 use Rattle.samples.specs.Samples.{sample-near}
+use Rattle.samples.specs.Tests.{fits-both}
 use Rattle.reader.specs.RecordAnswers.{frame-number}
 use Rattle.reader.specs.Corners.{record-count}
-use Rattle.reader.specs.Outcome.{refused-frame, refused-2, refused-3, refused-9, east-short, north-short, answered, long-enough, none-beyond}
+use Rattle.reader.specs.Outcome.{refused-frame, refused-2, refused-3, refused-9, short, answered, long-enough, none-beyond}
 use Rattle.reader.proofs.read_record.Statement.{statement}
 use Rattle.reader.proofs.read_record.Tie as tie
 
@@ -34,6 +36,15 @@ near c =
 
 is : (c : tie.Else4) → envelope (record-corners (c .before .before .before .before .before .before .before .before .args .bytes .now)) ≡ true
 is c = sym (c .before .is-envelope .ensures) ∙ not-false (c .before .is-envelope .result) (c .if4 .left)
+
+-- the test of the outputs, which counts the corners
+decided : (c : tie.After-too-short) {b : Bool} → c .too-short .result ≡ b →
+    let a = c .before .before .before .before .before .before .before .before .before .args in
+    let n = length (record-corners (a .bytes .now)) in
+    (ltb (length (a .east .now)) n || ltb (length (a .north .now)) n) ≡ b
+decided c e =
+    let a = c .before .before .before .before .before .before .before .before .before .args in
+    ap (λ (n : ℕ). ltb (length (a .east .now)) n || ltb (length (a .north .now)) n) (record-count (a .bytes .now)) ∙ sym (c .too-short .ensures) ∙ e
 
 -- ---- the returns
 
@@ -78,35 +89,23 @@ returns-4 c =
 
 returns-5 : tie.Need-returns-5
 returns-5 c =
-    let e = c .before in
-    let n = e .before .before in
-    let f = n .before .before in
-    let a = f .before .before .before .before .args in
-    rw
-    (east-short (a .bytes .now) (a .east .now) (a .north .now) (framed (f .before)) (few f) (near n) (is e)
-    (omega (arith, record-count (a .bytes .now), c .if5 .taken)))
-    (refl, (refl, refl))
-
-returns-6 : tie.Need-returns-6
-returns-6 c =
     let e = c .before .before in
     let n = e .before .before in
     let f = n .before .before in
     let a = f .before .before .before .before .args in
     rw
-    (north-short (a .bytes .now) (a .east .now) (a .north .now) (framed (f .before)) (few f) (near n) (is e)
-    (omega (arith, record-count (a .bytes .now), c .before .if5 .left))
-    (omega (arith, record-count (a .bytes .now), c .if6 .taken)))
+    (short (a .bytes .now) (a .east .now) (a .north .now) (framed (f .before)) (few f) (near n) (is e) (decided (c .before) (c .if5 .taken)))
     (refl, (refl, refl))
 
 write-requires : tie.Need-write-requires
 write-requires c κs =
     let g = c .before .before in
     let a = g .before .before .before .before .before .before .before .before .before .before .args in
-    record { count = sym (record-count (a .bytes .now)); east-room = g .before .if5 .left; north-room = g .if6 .left }
+    let fits = fits-both (length (a .east .now)) (length (a .north .now)) _ (sym (g .before .too-short .ensures) ∙ g .if5 .left) in
+    record { count = sym (record-count (a .bytes .now)); east-room = fits .0; north-room = fits .1 }
 
-returns-7 : tie.Need-returns-7
-returns-7 c =
+returns-6 : tie.Need-returns-6
+returns-6 c =
     let w = c .before .before in
     let g = w .before .before .before in
     let e = g .before .before in
@@ -114,9 +113,7 @@ returns-7 c =
     let f = n .before .before in
     let a = f .before .before .before .before .args in
     rw
-    (answered (a .bytes .now) (a .east .now) (a .north .now) (framed (f .before)) (few f) (near n) (is e)
-    (omega (arith, record-count (a .bytes .now), g .before .if5 .left))
-    (omega (arith, record-count (a .bytes .now), g .if6 .left)))
+    (answered (a .bytes .now) (a .east .now) (a .north .now) (framed (f .before)) (few f) (near n) (is e) (decided (g .before) (g .if5 .left)))
     (ap done (sym (record-count (a .bytes .now))), w .write .ensures)
 
 pub read-record-spec : {M : Type 1} → statement M
@@ -131,9 +128,9 @@ read-record-spec =
     returns-3
     is-envelope-requires
     returns-4
+    (λ c κs. search needs)
     returns-5
-    returns-6
     write-requires
     (λ c. search needs)
     (λ c. search needs)
-    returns-7)
+    returns-6)

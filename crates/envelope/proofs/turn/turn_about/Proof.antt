@@ -1,20 +1,20 @@
 -- `envelope::turn::turn_about` meets its contract: the tests refuse, or the outputs hold the parts of the ring turned about, from the place of entry on.
 -- Assumes nothing.
-use mathlib.Core.Path.{_≡_, refl, sym, ap, ap₂, _∙_}
+use mathlib.Core.Path.{_≡_, refl, sym, ap, _∙_}
 use mathlib.Core.Bool.{Bool, _||_}
 use mathlib.Core.List.{List, [], _∷_}
+use Prim.Native.Nat.{ℕ, _≤_}
 use native.Mathlib.Omega.{arith}
 use lib.IntN.{ℤ}
 use lib.Dec.{ltb}
 use lib.ListN.{length}
 use borrow.Author.Needs.{needs}
-use borrow.Author.Tests.{lt-ltb, le-ltb}
 use Rattle.rules.specs.Streams.{Stream, streams}
 use Rattle.rules.specs.Use.{turn-about}
 use Rattle.rules.specs.Refusals.{Answer, done, Test, unless}
 use Rattle.rules.specs.Entries.{ring-short, turn-answer}
 use Rattle.samples.specs.Samples.{streams-length}
-use Rattle.samples.specs.Tests.{then-answer, answer-by, refuses, passes}
+use Rattle.samples.specs.Tests.{then-answer, answer-by, refuses, passes, fits-both}
 use Rattle.samples.specs.declared.tests.Tested.{Tested}
 use Rattle.envelope.specs.Tests.{alone-tests, Sound, sound}
 use Rattle.envelope.specs.Turns.{parts-near, turned-length, turn-refused, turn-done}
@@ -73,51 +73,47 @@ count c =
     let a = start c in
     turned-length (streams (es a) (ns a)) (good c .is-envelope) ∙ streams-length (es a) (ns a) (good c .sampled .even)
 
+-- what the test of the outputs says of it
+decided : (c : tie.After-too-short) {b : Bool} → c .too-short .result ≡ b → short (start (c .before)) .holds ≡ b
+decided c e =
+    let a = start (c .before) in
+    ap (λ (m : ℕ). ltb (length (oe a)) m || ltb (length (on a)) m) (count (c .before)) ∙ sym (c .too-short .ensures) ∙ e
+
 returns-2 : tie.Need-returns-2
 returns-2 c =
-    let t = c .before in
-    let a = start t in
-    let r = turned-ring a in
-    let n : length r ≡ length (es a) = count t in
-    turn-refused (es a) (ns a) (oe a) (on a) refl
-    (left t ∙ refuses (short a) [] r (ap (λ (b : Bool). b || ltb (length (on a)) (length r)) (lt-ltb (length (oe a)) (length r) (omega arith))))
-
-returns-3 : tie.Need-returns-3
-returns-3 c =
     let t = c .before .before in
     let a = start t in
-    let r = turned-ring a in
-    let n : length r ≡ length (es a) = count t in
-    turn-refused (es a) (ns a) (oe a) (on a) refl
-    (left t ∙ refuses (short a) [] r (ap₂ _||_ (le-ltb (length (oe a)) (length r) (omega arith)) (lt-ltb (length (on a)) (length r) (omega arith))))
+    turn-refused (es a) (ns a) (oe a) (on a) refl (left t ∙ refuses (short a) [] (turned-ring a) (decided (c .before) (c .if1 .taken)))
 
 -- where both outputs have room
-abbrev passed : tie.Else2 → tie.After-enum-told
+abbrev passed : tie.Else1 → tie.After-enum-told
 passed c = c .before .before
 
-left-2 : (c : tie.Else2) → Is (start (passed c)) (done (turned-ring (start (passed c))))
-left-2 c =
+left-2 : (c : tie.Else1) → Is (start (passed c)) (done (turned-ring (start (passed c))))
+left-2 c = let a = start (passed c) in left (passed c) ∙ passes (short a) [] (turned-ring a) (decided (c .before) (c .if1 .left))
+
+room : (c : tie.Else1) → let a = start (passed c) in (length (es a) ≤ length (oe a)) × (length (es a) ≤ length (on a))
+room c =
     let a = start (passed c) in
-    let r = turned-ring a in
-    let n : length r ≡ length (es a) = count (passed c) in
-    left (passed c) ∙
-    passes (short a) [] r (ap₂ _||_ (le-ltb (length (oe a)) (length r) (omega arith)) (le-ltb (length (on a)) (length r) (omega arith)))
+    fits-both (length (oe a)) (length (on a)) (length (es a)) (sym (c .before .too-short .ensures) ∙ c .if1 .left)
 
 negate-from-requires : tie.Need-negate-from-requires
 negate-from-requires c κs =
-    let t = passed (c .before .before) in
+    let at = c .before .before in
+    let t = passed at in
     let n = streams-length (es (start t)) (ns (start t)) (good t .sampled .even) in
-    (parts-near (good t .sampled) .0, omega (arith, n, c .before .entry .ensures .here), omega arith)
+    (parts-near (good t .sampled) .0, omega (arith, n, c .before .entry .ensures .here), room at .0)
 
 negate-from-requires-2 : tie.Need-negate-from-requires-2
 negate-from-requires-2 c κs =
-    let t = passed (c .before .before .before .before .before) in
+    let at = c .before .before .before .before .before in
+    let t = passed at in
     let even = good t .sampled .even in
     let n = streams-length (es (start t)) (ns (start t)) even in
-    (parts-near (good t .sampled) .1, omega (arith, n, even, c .before .before .before .before .entry .ensures .here), omega (arith, even))
+    (parts-near (good t .sampled) .1, omega (arith, n, even, c .before .before .before .before .entry .ensures .here), omega (arith, even, room at .1))
 
-returns-4 : tie.Need-returns-4
-returns-4 c =
+returns-3 : tie.Need-returns-3
+returns-3 c =
     let at = c .before .before .before .before .before .before .before in
     let t = passed at in
     let a = start t in
@@ -136,11 +132,11 @@ turn-about-spec =
     (λ c. search needs)
     (λ c. search needs)
     returns
+    (λ c κs. search needs)
     returns-2
-    returns-3
     (λ c κs. (good (passed c) .sampled .even, good (passed c) .is-envelope))
     negate-from-requires
     negate-from-requires-2
     (λ c. search needs)
     (λ c. search needs)
-    returns-4)
+    returns-3)
