@@ -20,7 +20,7 @@ use samples::tests::Tested;
 use samples::tests::of_lists;
 
 // At b, come to from a, the ring turns strictly right to c; and from a side that does not go east only to one that goes west.
-fn turns(a: Stream, b: Stream, c: Stream) -> bool
+pub fn turns(a: Stream, b: Stream, c: Stream) -> bool
     requires { ⌜ Near (stream-of a) × Near (stream-of b) × Near (stream-of c) ⌝ }
     ensures { λ r. ⌜ r ≡ turns (stream-of a) (stream-of b) (stream-of c) ⌝ }
 {
@@ -34,7 +34,7 @@ fn turns(a: Stream, b: Stream, c: Stream) -> bool
 }
 
 // At the last corner b, come to from a, the ring turns strictly right to its first corner, and goes there west or straight up.
-fn closes(a: Stream, b: Stream, first: Stream) -> bool
+pub fn closes(a: Stream, b: Stream, first: Stream) -> bool
     requires { ⌜ Near (stream-of a) × Near (stream-of b) × Near (stream-of first) ⌝ }
     ensures { λ r. ⌜ r ≡ closes (stream-of a) (stream-of b) (stream-of first) ⌝ }
 {

@@ -1,6 +1,6 @@
 -- What the record reader's values say in the rules' words, and what its parts ask of a record.
 -- Assumes nothing.
-use mathlib.Core.Path.{_≡_}
+use mathlib.Core.Path.{_≡_, sym, subst}
 use mathlib.Core.Bool.{Bool, cond, not, _||_}
 use mathlib.Core.List.{List}
 use Prim.Native.Nat.{ℕ, _-_, _%_, _≤_}
@@ -10,7 +10,6 @@ use lib.ListN.{length}
 use Rattle.rules.specs.Streams.{Stream, sample}
 use Rattle.rules.specs.Record.{version, said-length}
 use Rattle.rules.specs.Entries.{record-corners}
-use Rattle.laws_neighbours.specs.Test.{turns, closes}
 use Rattle.samples.specs.Positions.{Near}
 
 -- "under 5 bytes, or length not a multiple of 8, or not the bytes that follow"
@@ -21,17 +20,14 @@ misframed bs = ltb (length bs) 5 || not (eqb (said-length bs % 8) 0) || not (eqb
 unfoldable pub frame-number : List ℕ → ℕ
 frame-number bs = cond (eqb (length bs) 0) 17 (cond (not (eqb (version bs) 1)) 16 (cond (misframed bs) 17 0))
 
--- the test of neighbours at one place: of the corner before place i, and of the last of n corners
-abbrev pub turns-at : List Stream → ℕ → Bool
-turns-at xs i = turns (sample xs (i - 2)) (sample xs (i - 1)) (sample xs i)
-
-abbrev pub closes-at : List Stream → ℕ → Bool
-closes-at xs n = closes (sample xs (n - 2)) (sample xs (n - 1)) (sample xs 0)
-
 -- n is the number of corners, and every part is within the limit
 pub record Passed (bs : List ℕ) (n : ℕ) : Type 0 where
   pub count : n ≡ length (record-corners bs)
   pub near : (i : ℕ) → Near (sample (record-corners bs) i)
+
+-- so each corner is near as it is read
+pub read-near : {bs : List ℕ} {n : ℕ} → Passed bs n → (i : ℕ) {s : Stream} → s ≡ sample (record-corners bs) i → Near s
+read-near p i e = subst Near (sym e) (p .near i)
 
 -- room in both outputs
 pub record Room (bs : List ℕ) (n : ℕ) (east north : List ℤ) : Type 0 where

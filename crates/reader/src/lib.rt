@@ -12,12 +12,13 @@ ghost use Rattle.rules.specs.Entries.{record-corners, record-answer, easts, nor
 ghost use Rattle.samples.specs.HeldStream.{stream-of};
 ghost use Rattle.envelope.specs.Walks.{round-from};
 ghost use Rattle.samples.specs.CountedAnswers.{counted-as};
-ghost use Rattle.reader.specs.RecordAnswers.{frame-number, turns-at, closes-at, Passed, Room};
+ghost use Rattle.reader.specs.RecordAnswers.{frame-number, Passed, Room};
+use envelope::test::closes;
+use envelope::test::turns;
 use samples::answers::Counted;
 use samples::streams::Stream;
 use samples::streams::beyond;
 use samples::streams::leftmost;
-use samples::streams::strictly_right;
 use samples::tests::MOST;
 use samples::tests::too_short;
 
@@ -122,43 +123,12 @@ fn goes_round(bytes: &[u8], n: usize) -> bool
 {
     let mut i = 2;
     while i < n {
-        if !turns(bytes, n, i) {
+        if !turns(corner(bytes, i - 2), corner(bytes, i - 1), corner(bytes, i)) {
             return false;
         }
         i += 1;
     }
-    closes(bytes, n)
-}
-
-// At the corner before place i the ring turns strictly right; and from a side that does not go east only to one that goes west.
-fn turns(bytes: &[u8], n: usize, i: usize) -> bool
-    requires { ⌜ Passed (now bytes) n × (2 ≤ i) × (i < n) ⌝ }
-    ensures { λ r. ⌜ r ≡ turns-at (record-corners (now (bytes .entry))) i ⌝ }
-{
-    let a = corner(bytes, i - 2);
-    let b = corner(bytes, i - 1);
-    let c = corner(bytes, i);
-    if strictly_right(a, b, c) {
-        if a.east < b.east {
-            return true;
-        }
-        return c.east < b.east;
-    }
-    false
-}
-
-// At its last corner the ring turns strictly right to its first, and goes there west or straight up.
-fn closes(bytes: &[u8], n: usize) -> bool
-    requires { ⌜ Passed (now bytes) n × (2 ≤ n) ⌝ }
-    ensures { λ r. ⌜ r ≡ closes-at (record-corners (now (bytes .entry))) n ⌝ }
-{
-    let a = corner(bytes, n - 2);
-    let b = corner(bytes, n - 1);
-    let first = corner(bytes, 0);
-    if strictly_right(a, b, first) {
-        return first.east <= b.east;
-    }
-    false
+    closes(corner(bytes, n - 2), corner(bytes, n - 1), corner(bytes, 0))
 }
 
 // The corners, written.

@@ -6,7 +6,9 @@ use Prim.Native.Nat.{_-_, _≤_, _+_}
 use native.Mathlib.Omega.{arith}
 use borrow.Author.Tests.{not-true, not-false}
 use Rattle.rules.specs.Entries.{record-corners}
+use Rattle.laws_neighbours.specs.Test.{turns, closes}
 use Rattle.envelope.specs.Walks.{round-from, round-more, round-end}
+use Rattle.reader.specs.RecordAnswers.{read-near}
 use Rattle.reader.proofs.goes_round.Statement.{statement}
 use Rattle.reader.proofs.goes_round.Tie as tie
 
@@ -16,40 +18,53 @@ Inv-loop bytes n i₀ i = (2 ≤ i) × (i ≤ n) × (round-from (record-corners 
 abbrev μ-loop : tie.MeasureT-loop
 μ-loop bytes n i₀ i = n - i
 
--- one turn of the loop
-tested : (c : tie.After-turns Inv-loop μ-loop) →
-    let l = c .before .before in
+turns-requires : tie.Need-turns-requires Inv-loop μ-loop
+turns-requires c κs =
+    let l = c .before .before .before .before in
+    let p = l .before .before .pre .0 in (
+      read-near p (l .loop .i - 2) (c .before .before .corner .ensures),
+      read-near p (l .loop .i - 1) (c .before .corner2 .ensures),
+      read-near p (l .loop .i) (c .corner3 .ensures),
+    )
+
+-- one turn of the loop, by what it found
+went : (c : tie.After-turns Inv-loop μ-loop) {b : Bool} → c .turns .result ≡ b →
+    let l = c .before .before .before .before .before in
     let xs = record-corners (l .before .before .args .bytes .now) in
-    round-from xs 2 ≡ (c .turns .result && round-from xs (l .loop .i + 1))
-tested c =
-    let l = c .before .before in
+    round-from xs 2 ≡ (b && round-from xs (l .loop .i + 1))
+went c e =
+    let l = c .before .before .before .before .before in
     let xs = record-corners (l .before .before .args .bytes .now) in
+    let same =
+    c .turns .ensures ∙ (λ k. turns (c .before .before .before .corner .ensures k) (c .before .before .corner2 .ensures k) (c .before .corner3 .ensures k)) in
     l .loop .inv .2
-    ∙ round-more xs (l .loop .i) (omega arith) (omega (arith, l .before .before .pre .0 .count, c .before .loop-test .taken))
-    ∙ ap (λ (b : Bool). b && round-from xs (l .loop .i + 1)) (sym (c .turns .ensures))
+    ∙ round-more xs (l .loop .i) (omega arith) (omega (arith, l .before .before .pre .0 .count))
+    ∙ ap (λ (b : Bool). b && round-from xs (l .loop .i + 1)) (sym same ∙ e)
 
 returns : tie.Need-returns Inv-loop μ-loop
-returns c =
-    let l = c .before .before .before in
-    let xs = record-corners (l .before .before .args .bytes .now) in
-    sym (tested (c .before) ∙ ap (λ (b : Bool). b && round-from xs (l .loop .i + 1)) (not-true (c .before .turns .result) (c .if1 .taken)))
+returns c = sym (went (c .before) (not-true (c .before .turns .result) (c .if1 .taken)))
 
 loop-again : tie.Need-loop-again Inv-loop μ-loop
-loop-again c =
-    let l = c .before .before .before in
-    let xs = record-corners (l .before .before .args .bytes .now) in (
-      omega arith,
-      omega arith,
-      tested (c .before) ∙ ap (λ (b : Bool). b && round-from xs (l .loop .i + 1)) (not-false (c .before .turns .result) (c .if1 .left)),
+loop-again c = (omega arith, omega arith, went (c .before) (not-false (c .before .turns .result) (c .if1 .left)))
+
+closes-requires : tie.Need-closes-requires Inv-loop μ-loop
+closes-requires c κs =
+    let s = c .before .before .before .before .before .before in
+    let n = s .args .n in (
+      read-near (s .pre .0) (n - 2) (c .before .before .corner4 .ensures),
+      read-near (s .pre .0) (n - 1) (c .before .corner5 .ensures),
+      read-near (s .pre .0) 0 (c .corner6 .ensures),
     )
 
 returns-2 : tie.Need-returns-2 Inv-loop μ-loop
 returns-2 c =
-    let l = c .before .before in
+    let l = c .before .before .before .before .before in
     let s = l .before .before in
     let xs = record-corners (s .args .bytes .now) in
     let end : l .loop .i ≡ s .args .n = omega arith in
-    c .closes .ensures ∙ sym (l .loop .inv .2 ∙ ap (round-from xs) end ∙ round-end xs (s .args .n) (omega (arith, s .pre .0 .count)))
+    c .closes .ensures
+    ∙ (λ k. closes (c .before .before .before .corner4 .ensures k) (c .before .before .corner5 .ensures k) (c .before .corner6 .ensures k))
+    ∙ sym (l .loop .inv .2 ∙ ap (round-from xs) end ∙ round-end xs (s .args .n) (omega (arith, s .pre .0 .count)))
 
 pub goes-round-spec : {M : Type 1} → statement M
 goes-round-spec =
@@ -58,10 +73,20 @@ goes-round-spec =
     Inv-loop
     μ-loop
     (λ c. (omega arith, omega arith, refl))
-    (λ c κs. (c .before .before .before .pre .0, omega arith, omega arith))
+    (λ c. omega arith)
+    (λ c κs. omega arith)
+    (λ c. omega arith)
+    (λ c κs. omega arith)
+    (λ c κs. omega arith)
+    turns-requires
     returns
     (λ c. omega arith)
     (λ c. omega arith)
     loop-again
-    (λ c κs. c .before .before .before .pre)
+    (λ c. omega arith)
+    (λ c κs. omega arith)
+    (λ c. omega arith)
+    (λ c κs. omega arith)
+    (λ c κs. omega arith)
+    closes-requires
     returns-2)

@@ -1,6 +1,6 @@
 -- `reader::is_envelope` meets its contract: the test of neighbours, which tells the envelopes from all other lists.
 -- Assumes nothing.
-use mathlib.Core.Path.{_≡_, sym, ap, ap₂, _∙_, subst}
+use mathlib.Core.Path.{_≡_, sym, ap, ap₂, _∙_}
 use mathlib.Core.Bool.{Bool, _&&_}
 use native.Mathlib.Omega.{arith}
 use borrow.Author.Needs.{needs}
@@ -9,9 +9,9 @@ use Rattle.rules.specs.Streams.{Stream, sample}
 use Rattle.rules.specs.Chain.{leftmost}
 use Rattle.rules.specs.Entries.{record-corners}
 use Rattle.laws_neighbours.specs.Recognised.{recognised}
-use Rattle.samples.specs.Positions.{Near}
 use Rattle.samples.specs.StreamWords.{read, held}
 use Rattle.envelope.specs.Walks.{round-from, few-pass, two-pass, more-pass}
+use Rattle.reader.specs.RecordAnswers.{read-near}
 use Rattle.reader.proofs.is_envelope.Statement.{statement}
 use Rattle.reader.proofs.is_envelope.Tie as tie
 
@@ -38,12 +38,12 @@ compared : (c : tie.After-struct-told2) →
     ltZ (read (r .before .corner .result .east)) (read (r .corner2 .result .east)) ≡ ltZ (sample xs 0 .east) (sample xs 1 .east)
 compared c =
     let r = c .before .before .before .before .before in
-    let near = r .before .before .before .before .pre .near in
+    let p = r .before .before .before .before .pre in
     let first = r .before .corner .ensures in
     let second = r .corner2 .ensures in
     ap₂ ltZ
-    (held (subst Near (sym first) (near 0) .east-near) .same ∙ ap (λ (s : Stream). s .east) first)
-    (held (subst Near (sym second) (near 1) .east-near) .same ∙ ap (λ (s : Stream). s .east) second)
+    (held (read-near p 0 first .east-near) .same ∙ ap (λ (s : Stream). s .east) first)
+    (held (read-near p 1 second .east-near) .same ∙ ap (λ (s : Stream). s .east) second)
 
 returns-3 : tie.Need-returns-3
 returns-3 c =
