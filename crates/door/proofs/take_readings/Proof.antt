@@ -33,40 +33,43 @@ returns-3 c =
     (c .match .keys2)
 
 -- past the readings
+abbrev start : tie.After-enum-told → tie.Start
+start c = c .before .before .before .before .before .before .before
+
 all-are : (c : tie.After-enum-told) →
-    let a = c .before .before .before .before .before .before .before .args in
+    let a = start c .args in
     readings 0 (now (a .es)) (now (a .ns)) ≡ taken (wholes (now (a .es))) (wholes (now (a .ns)))
 all-are c =
-    let a = c .before .before .before .before .before .before .before .args in
+    let a = start c .args in
     sym (c .before .before .first-bad .ensures) ∙ ap (readings-as (wholes (now (a .es))) (wholes (now (a .ns)))) (c .enum-told .given .1)
 
 -- what the test of the outputs says
 decided : (c : tie.After-too-short) {b : Bool} → c .too-short .result ≡ b →
-    let a = c .before .before .before .before .before .before .before .before .args in
+    let a = start (c .before) .args in
     (ltb (length (now (a .east))) (length (now (a .es))) || ltb (length (now (a .north))) (length (now (a .es)))) ≡ b
 decided c e = sym (c .too-short .ensures) ∙ e
 
 returns-4 : tie.Need-returns-4
 returns-4 c =
     let test = c .before .before in
-    let a = test .before .before .before .before .before .before .before .before .args in
+    let a = start (test .before) .args in
     rw (c .refused3 .ensures)
     (short (now (a .es)) (now (a .ns)) (now (a .east)) (now (a .north)) (omega arith) (omega arith) (all-are (test .before))
     (decided test (c .before .if3 .taken)))
 
 -- both outputs have room
 room : (c : tie.Else3) →
-    let a = c .before .before .before .before .before .before .before .before .before .args in
+    let a = start (c .before .before) .args in
     (length (now (a .es)) ≤ length (now (a .east))) × (length (now (a .es)) ≤ length (now (a .north)))
 room c =
-    let a = c .before .before .before .before .before .before .before .before .before .args in
+    let a = start (c .before .before) .args in
     fits-both (length (now (a .east))) (length (now (a .north))) (length (now (a .es))) (decided (c .before) (c .if3 .left))
 
 returns-5 : tie.Need-returns-5
 returns-5 c =
     let past-tests = c .before .before .before .before .before .before in
     let test = past-tests .before in
-    let a = test .before .before .before .before .before .before .before .before .args in
+    let a = start (test .before) .args in
     let o =
     all-taken (now (a .es)) (now (a .ns)) (now (a .east)) (now (a .north)) (omega (arith, past-tests)) (omega (arith, past-tests)) (all-are (test .before))
     (decided test (past-tests .if3 .left)) in

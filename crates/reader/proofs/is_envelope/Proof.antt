@@ -21,10 +21,17 @@ returns c =
     let xs = record-corners (s .args .bytes .now) in
     sym (few-pass xs (omega (arith, s .pre .count, c .if1 .taken))) ∙ recognised xs
 
+-- the entry, from where the first two corners are read, and these from where their easts are
+abbrev start : tie.After-corner2 → tie.Start
+start c = c .before .before .before .before
+
+abbrev two : tie.After-struct-told2 → tie.After-corner2
+two c = c .before .before .before .before .before
+
 returns-2 : tie.Need-returns-2
 returns-2 c =
     let r = c .before .before in
-    let s = r .before .before .before .before in
+    let s = start r in
     let xs = record-corners (s .args .bytes .now) in
     c .leftmost .ensures
     ∙ ap₂ leftmost (r .before .corner .ensures) (r .corner2 .ensures)
@@ -33,12 +40,12 @@ returns-2 c =
 
 -- what the code compares are the easts of the first two corners
 compared : (c : tie.After-struct-told2) →
-    let r = c .before .before .before .before .before in
-    let xs = record-corners (r .before .before .before .before .args .bytes .now) in
+    let r = two c in
+    let xs = record-corners (start r .args .bytes .now) in
     ltZ (read (r .before .corner .result .east)) (read (r .corner2 .result .east)) ≡ ltZ (sample xs 0 .east) (sample xs 1 .east)
 compared c =
-    let r = c .before .before .before .before .before in
-    let p = r .before .before .before .before .pre in
+    let r = two c in
+    let p = start r .pre in
     let first = r .before .corner .ensures in
     let second = r .corner2 .ensures in
     ap₂ ltZ
@@ -48,7 +55,7 @@ compared c =
 returns-3 : tie.Need-returns-3
 returns-3 c =
     let t = c .before .before in
-    let s = t .before .before .before .before .before .before .before .before .before in
+    let s = start (two t) in
     let xs = record-corners (s .args .bytes .now) in
     c .goes-round .ensures
     ∙ ap (λ (b : Bool). b && round-from xs 2) (sym (c .before .if3 .taken) ∙ compared t)
@@ -58,7 +65,7 @@ returns-3 c =
 returns-4 : tie.Need-returns-4
 returns-4 c =
     let t = c .before in
-    let s = t .before .before .before .before .before .before .before .before .before in
+    let s = start (two t) in
     let xs = record-corners (s .args .bytes .now) in
     ap (λ (b : Bool). b && round-from xs 2) (sym (c .if3 .left) ∙ compared t)
     ∙ sym (more-pass xs (omega (arith, s .pre .count)))

@@ -23,27 +23,49 @@ use Rattle.reader.proofs.read_record.Tie as tie
 
 -- ---- what the tests so far say
 
-framed : (c : tie.Else1) → _≡_ 0 (frame-number (c .before .before .before .args .bytes .now))
+-- each test from the next, and the entry
+abbrev start : tie.Else1 → tie.Start
+start c = c .before .before .before
+
+abbrev past-frame : tie.Else2 → tie.Else1
+past-frame c = c .before
+
+abbrev past-2 : tie.Else3 → tie.Else2
+past-2 c = c .before .before
+
+abbrev past-3 : tie.Else4 → tie.Else3
+past-3 c = c .before .before
+
+abbrev entry-2 : tie.Else2 → tie.Start
+entry-2 c = start (past-frame c)
+
+abbrev entry-3 : tie.Else3 → tie.Start
+entry-3 c = entry-2 (past-2 c)
+
+abbrev entry-4 : tie.Else4 → tie.Start
+entry-4 c = entry-3 (past-3 c)
+
+framed : (c : tie.Else1) → _≡_ 0 (frame-number (start c .args .bytes .now))
 framed c = sym (c .if1 .left) ∙ c .before .frame .ensures
 
-few : (c : tie.Else2) → length (record-corners (c .before .before .before .before .args .bytes .now)) ≤ most
-few c = omega (arith, record-count (c .before .before .before .before .args .bytes .now), c .if2 .left)
+few : (c : tie.Else2) → length (record-corners (entry-2 c .args .bytes .now)) ≤ most
+few c = omega (arith, record-count (entry-2 c .args .bytes .now), c .if2 .left)
 
-near : (c : tie.Else3) → some-of beyond (record-corners (c .before .before .before .before .before .before .args .bytes .now)) ≡ false
+near : (c : tie.Else3) → some-of beyond (record-corners (entry-3 c .args .bytes .now)) ≡ false
 near c =
-    let bs = c .before .before .before .before .before .before .args .bytes .now in
+    let bs = entry-3 c .args .bytes .now in
     none-beyond (record-corners bs) (c .before .first-beyond .result) (c .before .first-beyond .ensures) (omega (arith, record-count bs, c .if3 .left))
 
-is : (c : tie.Else4) → envelope (record-corners (c .before .before .before .before .before .before .before .before .args .bytes .now)) ≡ true
+is : (c : tie.Else4) → envelope (record-corners (entry-4 c .args .bytes .now)) ≡ true
 is c = sym (c .before .is-envelope .ensures) ∙ not-false (c .before .is-envelope .result) (c .if4 .left)
 
 -- the test of the outputs, which counts the corners
 decided : (c : tie.After-too-short) {b : Bool} → c .too-short .result ≡ b →
-    let a = c .before .before .before .before .before .before .before .before .before .args in
+    let a = entry-4 (c .before) .args in
     let n = length (record-corners (a .bytes .now)) in
     (ltb (length (a .east .now)) n || ltb (length (a .north .now)) n) ≡ b
 decided c e =
-    let a = c .before .before .before .before .before .before .before .before .before .args in
+    let a = entry-4 (c .before) .args in
     ap (λ (n : ℕ). ltb (length (a .east .now)) n || ltb (length (a .north .now)) n) (record-count (a .bytes .now)) ∙ sym (c .too-short .ensures) ∙ e
 
 -- ---- the returns
@@ -56,7 +78,7 @@ returns c =
 
 returns-2 : tie.Need-returns-2
 returns-2 c =
-    let a = c .before .before .before .before .args in
+    let a = start (c .before) .args in
     rw
     (refused-2 (a .bytes .now) (a .east .now) (a .north .now) (framed (c .before)) (omega (arith, record-count (a .bytes .now), c .if2 .taken)))
     (refl, (refl, refl))
@@ -64,9 +86,9 @@ returns-2 c =
 returns-3 : tie.Need-returns-3
 returns-3 c =
     let f = c .before .before in
-    let a = f .before .before .before .before .args in
+    let a = entry-2 f .args in
     rw
-    (refused-3 (a .bytes .now) (a .east .now) (a .north .now) (framed (f .before)) (few f)
+    (refused-3 (a .bytes .now) (a .east .now) (a .north .now) (framed (past-frame f)) (few f)
     (c .before .first-beyond .result)
     (c .before .first-beyond .ensures)
     (omega (arith, record-count (a .bytes .now), c .if3 .taken)))
@@ -74,33 +96,33 @@ returns-3 c =
 
 is-envelope-requires : tie.Need-is-envelope-requires
 is-envelope-requires c κs =
-    let bs = c .before .before .before .before .before .before .args .bytes .now in
+    let bs = entry-3 c .args .bytes .now in
     record { count = sym (record-count bs); near = sample-near (record-corners bs) (near c) }
 
 returns-4 : tie.Need-returns-4
 returns-4 c =
     let n = c .before .before in
-    let f = n .before .before in
-    let a = f .before .before .before .before .args in
+    let f = past-2 n in
+    let a = entry-3 n .args in
     rw
-    (refused-9 (a .bytes .now) (a .east .now) (a .north .now) (framed (f .before)) (few f) (near n)
+    (refused-9 (a .bytes .now) (a .east .now) (a .north .now) (framed (past-frame f)) (few f) (near n)
     (sym (c .before .is-envelope .ensures) ∙ not-true (c .before .is-envelope .result) (c .if4 .taken)))
     (refl, (refl, refl))
 
 returns-5 : tie.Need-returns-5
 returns-5 c =
     let e = c .before .before in
-    let n = e .before .before in
-    let f = n .before .before in
-    let a = f .before .before .before .before .args in
+    let n = past-3 e in
+    let f = past-2 n in
+    let a = entry-4 e .args in
     rw
-    (short (a .bytes .now) (a .east .now) (a .north .now) (framed (f .before)) (few f) (near n) (is e) (decided (c .before) (c .if5 .taken)))
+    (short (a .bytes .now) (a .east .now) (a .north .now) (framed (past-frame f)) (few f) (near n) (is e) (decided (c .before) (c .if5 .taken)))
     (refl, (refl, refl))
 
 write-requires : tie.Need-write-requires
 write-requires c κs =
     let g = c .before .before in
-    let a = g .before .before .before .before .before .before .before .before .before .before .args in
+    let a = entry-4 (g .before .before) .args in
     let fits = fits-both (length (a .east .now)) (length (a .north .now)) _ (sym (g .before .too-short .ensures) ∙ g .if5 .left) in
     record { count = sym (record-count (a .bytes .now)); east-room = fits .0; north-room = fits .1 }
 
@@ -109,11 +131,11 @@ returns-6 c =
     let w = c .before .before in
     let g = w .before .before .before in
     let e = g .before .before in
-    let n = e .before .before in
-    let f = n .before .before in
-    let a = f .before .before .before .before .args in
+    let n = past-3 e in
+    let f = past-2 n in
+    let a = entry-4 e .args in
     rw
-    (answered (a .bytes .now) (a .east .now) (a .north .now) (framed (f .before)) (few f) (near n) (is e) (decided (g .before) (g .if5 .left)))
+    (answered (a .bytes .now) (a .east .now) (a .north .now) (framed (past-frame f)) (few f) (near n) (is e) (decided (g .before) (g .if5 .left)))
     (ap done (sym (record-count (a .bytes .now))), w .write .ensures)
 
 pub read-record-spec : {M : Type 1} → statement M
@@ -122,9 +144,9 @@ read-record-spec =
     (tie.spec
     (λ c κs. search needs)
     returns
-    (λ c. long-enough (c .before .before .before .args .bytes .now) (framed c))
+    (λ c. long-enough (start c .args .bytes .now) (framed c))
     returns-2
-    (λ c κs. sym (record-count (c .before .before .before .before .args .bytes .now)))
+    (λ c κs. sym (record-count (entry-2 c .args .bytes .now)))
     returns-3
     is-envelope-requires
     returns-4

@@ -36,24 +36,27 @@ returns-2 c =
     sym (two-pass (ring-of start) (omega (arith, count start))) ∙
     recognised (ring-of start)
 
--- from where the easts of the first two corners are compared
+-- the first two corners from where their easts are compared, and the entry
+abbrev two : tie.After-struct-told2 → tie.After-at2
+two c = c .before .before .before .before .before
+
 abbrev start : tie.After-struct-told2 → tie.Start
-start c = c .before .before .before .before .before .before .before .before
+start c = two c .before .before .before
 
 compared : (c : tie.After-struct-told2) →
-    let first = c .before .before .before .before .before .before .at .result in
-    let second = c .before .before .before .before .before .at2 .result in
+    let first = two c .before .at .result in
+    let second = two c .at2 .result in
     ltZ (read (first .east)) (read (second .east)) ≡ ltZ (sample (ring-of (start c)) 0 .east) (sample (ring-of (start c)) 1 .east)
 compared c =
-    let first = c .before .before .before .before .before .before .at .ensures in
-    let second = c .before .before .before .before .before .at2 .ensures in
+    let first = two c .before .at .ensures in
+    let second = two c .at2 .ensures in
     ap₂ ltZ
     (held (read-near (start c .pre) 0 first .east-near) .same ∙ ap (λ (s : Stream). s .east) first)
     (held (read-near (start c .pre) 1 second .east-near) .same ∙ ap (λ (s : Stream). s .east) second)
 
 -- so the answer is what the code found of the sides
 sides : (c : tie.After-struct-told2) (b : Bool) → b ≡ ltZ (sample (ring-of (start c)) 0 .east) (sample (ring-of (start c)) 1 .east) →
-    (2 < length (c .before .before .before .before .before .before .before .before .args .east .now)) →
+    (2 < length (start c .args .east .now)) →
     (b && round-from (ring-of (start c)) 2) ≡ envelope (ring-of (start c))
 sides c b e h =
     let xs = ring-of (start c) in

@@ -42,16 +42,17 @@ negate-requires-2 c κs =
 
 returns : tie.Need-returns
 returns c =
-    let a = c .before .before .before .before .before .before .before .before .args in
+    let first = c .before .before .before .before .before in
+    let a = first .before .before .before .args in
     let s = a .start in
     let ps = a .parts .now in
     let rest = length ps - s in
-    let w = c .before .before .before .before .before .negate .last .1 .0 in
+    let w = first .negate .last .1 .0 in
     let count = length-drop s ps in
     let whole : take rest (drop s ps) ≡ drop s ps = take-all rest (drop s ps) (omega (arith, count)) in
     two-written (map negℤ (take rest (drop s ps))) (map negℤ (take s ps)) (a .out .now) w (c .before .negate2 .last .1 .0) rest
     (length-map (take rest (drop s ps)) negℤ ∙ ap length whole ∙ count)
-    (c .before .before .before .before .before .negate .ensures)
+    (first .negate .ensures)
     (c .before .negate2 .ensures) ∙
     ap
     (λ (l : List ℤ). written l (a .out .now))
