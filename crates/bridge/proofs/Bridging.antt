@@ -13,7 +13,7 @@ use Rattle.rules.specs.Streams.{Stream}
 use Rattle.rules.specs.Chain.{Of}
 use Rattle.rules.specs.Bridge.{Bridge, ends, spans}
 use Rattle.laws_outline.specs.Bridges.{BridgeOver, bridge-is, bridge-unique}
-use Rattle.laws_rounds.specs.Items.{first-of, kept-in}
+use Rattle.laws_rounds.specs.ListedItems.{first-of, kept-in}
 use Rattle.laws_rounds.specs.Pairs.{here}
 use Rattle.laws_rounds.specs.Rounds.{Found, Kept, found-says, kept-says, found-bridge, kept-spans, kept-bridge, kept-shorter}
 use Rattle.samples.specs.Positions.{Listed}

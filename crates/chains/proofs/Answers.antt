@@ -13,7 +13,7 @@ use Rattle.rules.specs.Streams.{streams}
 use Rattle.rules.specs.Chain.{upper-numbers, lower-numbers}
 use Rattle.rules.specs.Refusals.{Answer, refused, done, Test, test, unless, output-short, scratch-after}
 use Rattle.rules.specs.Entries.{Chains, step-without-bridge, chains-answer}
-use Rattle.laws_rounds.specs.Steps.{no-step-without-bridge}
+use Rattle.laws_rounds.specs.StepsAtMiddle.{no-step-without-bridge}
 use Rattle.samples.specs.Tests.{tested-of, sample-tests, then-answer, answer-after, quiet-scratch}
 use Rattle.samples.specs.declared.tests.Tested.{Tested}
 use Rattle.samples.specs.declared.tests.Tested.the-variants.{Passed, Refused}

@@ -14,16 +14,16 @@ use borrow.Rule.Slice.PartMut.{midOf, putMid, mid-len, same-len-mid, take-put}
 use Rattle.rules.specs.Streams.{Stream, streams}
 use Rattle.rules.specs.Chain.{corners, upper, lower, upper-numbers, lower-numbers}
 use Rattle.laws_outline.specs.ListLaws.{those-most, those-in}
-use Rattle.laws_rounds.specs.Items.{first-of-in}
+use Rattle.laws_rounds.specs.ListedItems.{first-of-in}
 use Rattle.laws_rounds.specs.Pairs.{here}
-use Rattle.laws_rounds.specs.Steps.{BySteps}
+use Rattle.laws_rounds.specs.StepsAtMiddle.{BySteps}
 use Rattle.laws_rounds.specs.WholeList.{numbers, numbers-length}
 use Rattle.samples.specs.Positions.{Listed, at, east-of}
 use Rattle.step.specs.NumberLists.{between, first-numbers, FirstAsks, Listing}
 use Rattle.step.specs.Ends.{EndOf, nearest}
 use Rattle.step.specs.Chaining.{Chainable}
 use Rattle.step.specs.Stepping.{side-samples, number-at, ChainAsks, ChainSays}
-use Rattle.step.specs.First.{first-chainable, first-chain, end-is}
+use Rattle.step.specs.FirstList.{first-chainable, first-chain, end-is}
 use Rattle.step.specs.declared.Stepped.{Stepped}
 use Rattle.step.specs.declared.Stepped.the-variants.{Chain, NoBridge}
 use Rattle.laws_outline.specs.Numbers.{lower-mirrored}

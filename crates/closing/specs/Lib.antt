@@ -1,3 +1,3 @@
-pub mod Both
-pub mod RingOutcome
-pub mod Written
+pub mod TwoChains
+pub mod RingPromise
+pub mod RingWritten

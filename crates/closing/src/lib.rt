@@ -3,9 +3,9 @@
 
 ghost use Rattle.rules.specs.Ring.{closed};
 ghost use Rattle.laws_stack.specs.Places.{listed};
-ghost use Rattle.walk.specs.Both.{Corners, count};
-ghost use Rattle.closing.specs.Both.{upper-at, lower-at, Both};
-ghost use Rattle.closing.specs.RingOutcome.{unless-short, Outcome};
+ghost use Rattle.walk.specs.TwoRings.{Corners, count};
+ghost use Rattle.closing.specs.TwoChains.{upper-at, lower-at, Both};
+ghost use Rattle.closing.specs.RingPromise.{unless-short, Outcome};
 use crate::lower::left_in;
 use crate::writing::put;
 use samples::answers::Counted;

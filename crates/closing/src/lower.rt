@@ -6,8 +6,8 @@ ghost use mathlib.Core.Bool.{false};
 ghost use Prim.Native.Nat.{_<_};
 ghost use Rattle.rules.specs.Streams.{same};
 ghost use Rattle.laws_stack.specs.ClosedPlaces.{Right, Closes};
-ghost use Rattle.walk.specs.Both.{Corners, count, listed-at};
-ghost use Rattle.closing.specs.Both.{upper-at, lower-at, TwoOf, Both};
+ghost use Rattle.walk.specs.TwoRings.{Corners, count, listed-at};
+ghost use Rattle.closing.specs.TwoChains.{upper-at, lower-at, TwoOf, Both};
 use walk::corners::listed;
 use walk::corners::same;
 

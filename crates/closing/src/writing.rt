@@ -5,8 +5,8 @@ ghost use mathlib.Core.List.{_++_};
 ghost use Prim.Native.Nat.{_+_, _^_, _<_};
 ghost use lib.ListN.{drop};
 ghost use Rattle.laws_stack.specs.Places.{listed};
-ghost use Rattle.walk.specs.Both.{Corners, count};
-ghost use Rattle.closing.specs.Both.{ring-place, ring-corner, Room};
+ghost use Rattle.walk.specs.TwoRings.{Corners, count};
+ghost use Rattle.closing.specs.TwoChains.{ring-place, ring-corner, Room};
 use walk::corners::listed;
 
 // Where the ring's corner i stands in w: on the upper chain, or on the way back.

@@ -14,7 +14,7 @@ use Rattle.rules.specs.Refusals.{refused, done, output-after}
 use Rattle.rules.specs.Door.{part, readings}
 use Rattle.rules.specs.Program.{printed}
 use Rattle.rules.specs.Entries.{ring-answer, join-answer, strongest-answer, cover-answer, hand-answer, hand-step-answer, hand-after, door-answer, door-output-after, taken-east, taken-north, record-answer, counted, easts, norths}
-use Rattle.picker.specs.Outcome.{PickPromise}
+use Rattle.picker.specs.Promise.{PickPromise}
 use Rattle.picker.specs.declared.Picked.{Picked}
 use Rattle.chains.specs.Promise.{ChainsPromise}
 use Rattle.chains.specs.declared.ChainsAnswer.{ChainsAnswer}
@@ -22,10 +22,10 @@ use Rattle.bridge.specs.Promise.{BridgePromise}
 use Rattle.bridge.specs.declared.BridgeAnswer.{BridgeAnswer}
 use Rattle.round.specs.Promise.{RoundPromise}
 use Rattle.round.specs.declared.RoundAnswer.{RoundAnswer}
-use Rattle.closing.specs.RingOutcome.{Outcome}
+use Rattle.closing.specs.RingPromise.{Outcome}
 use Rattle.samples.specs.CountedAnswers.{counted-as}
 use Rattle.samples.specs.declared.answers.Counted.{Counted}
-use Rattle.envelope.specs.RingAnswers.{TurnPromise, strongest-as, covered-as}
+use Rattle.envelope.specs.UseAnswers.{TurnPromise, strongest-as, covered-as}
 use Rattle.envelope.specs.declared.strongest.StrongestSet.{StrongestSet}
 use Rattle.envelope.specs.declared.cover.Covered.{Covered}
 use Rattle.hand.specs.HandAnswers.{hand-at, made-as, edge-as}

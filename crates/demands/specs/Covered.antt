@@ -14,10 +14,10 @@ use Rattle.rules.specs.Ring.{ring}
 use Rattle.rules.specs.Use.{envelope, covers, join}
 use Rattle.rules.specs.Refusals.{done, ring-tests, single-beyond, not-envelope}
 use Rattle.rules.specs.Entries.{cover-answer}
-use Rattle.laws_rings.specs.Lines.{one-position}
+use Rattle.laws_rings.specs.FewestCorners.{one-position}
 use Rattle.laws_rings.specs.Joins.{join-rings}
 use Rattle.laws_rings.specs.Covering.{covered-join}
-use Rattle.envelope.specs.RingAnswers.{covered-as}
+use Rattle.envelope.specs.UseAnswers.{covered-as}
 use Rattle.envelope.specs.declared.cover.Covered.{Covered}
 use Rattle.envelope.specs.declared.cover.Covered.the-variants as said
 use Rattle.envelope.proofs.cover.cover.Kinds as kinds

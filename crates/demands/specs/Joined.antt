@@ -33,7 +33,7 @@ use Rattle.join.proofs.join.Reads as reads
 use Rattle.demands.specs.Done.{Left, ring-left, left-even, left-ring, left-as-given}
 use Rattle.demands.specs.Ringed as rings
 use Rattle.demands.specs.Records as records
-use Rattle.demands.specs.Turned as turns
+use Rattle.demands.specs.RingTurned as turns
 use Rattle.demands.specs.Covered as covers
 
 -- a call of the join

@@ -3,10 +3,10 @@ pub mod Chains
 pub mod Ringed
 pub mod Records
 pub mod Joined
-pub mod Turned
-pub mod About
+pub mod RingTurned
+pub mod SamplesTurned
 pub mod Strongest
 pub mod Covered
 pub mod Contracts
-pub mod Cases
+pub mod AnswerCases
 pub mod Soundings

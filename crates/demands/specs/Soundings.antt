@@ -21,7 +21,7 @@ use Rattle.rules.specs.Refusals.{Answer, done, Test, too-many, scratch-short, o
 use Rattle.rules.specs.Entries.{Chains, kept-list, easts, norths, counted, ring-short, sample-tests, chains-answer, bridge-answer, round-answer, ring-answer, join-answer, turn-answer, strongest-answer, cover-answer}
 use Rattle.rules.specs.Soundings.{A-easts, A-norths, A-scratch, A-ring-easts, A-ring-norths, A, A-ring, A-round, tall, flat, three, soundings, slips}
 use Rattle.laws_rings.specs.Rings.{envelope-ring}
-use Rattle.laws_rounds.specs.Steps.{no-step-without-bridge}
+use Rattle.laws_rounds.specs.StepsAtMiddle.{no-step-without-bridge}
 use Rattle.chains.specs.Promise as chains
 use Rattle.chains.specs.declared.ChainsAnswer.{ChainsAnswer}
 use Rattle.chains.specs.declared.ChainsAnswer.the-variants as chains-said
@@ -31,17 +31,17 @@ use Rattle.bridge.specs.declared.BridgeAnswer.the-variants as bridge-said
 use Rattle.round.specs.Promise as rounding
 use Rattle.round.specs.declared.RoundAnswer.{RoundAnswer}
 use Rattle.round.specs.declared.RoundAnswer.the-variants as round-said
-use Rattle.closing.specs.RingOutcome.{Outcome}
+use Rattle.closing.specs.RingPromise.{Outcome}
 use Rattle.samples.specs.CountedAnswers.{counted-injective}
 use Rattle.samples.specs.declared.answers.Counted.{Counted}
 use Rattle.samples.specs.declared.answers.Counted.the-variants as counts
-use Rattle.envelope.specs.RingAnswers.{TurnPromise, strongest-as, covered-as}
+use Rattle.envelope.specs.UseAnswers.{TurnPromise, strongest-as, covered-as}
 use Rattle.envelope.specs.declared.strongest.StrongestSet.{StrongestSet}
 use Rattle.envelope.specs.declared.strongest.StrongestSet.the-variants as strongest
 use Rattle.envelope.specs.declared.cover.Covered.{Covered}
 use Rattle.envelope.specs.declared.cover.Covered.the-variants as cover
 use Rattle.demands.specs.Done.{when-done, not-refused}
-use Rattle.demands.specs.Cases.{chains-done, bridge-found, bridge-refused, round-found, round-kept, strongest-greatest, covered-yes}
+use Rattle.demands.specs.AnswerCases.{chains-done, bridge-found, bridge-refused, round-found, round-kept, strongest-greatest, covered-yes}
 
 -- ---- any outcome that a promise allows: what is lent, with room for the result and 16c + 64 words of scratch, what is answered and what is left
 

@@ -19,10 +19,10 @@ use Rattle.rules.specs.Ring.{ring}
 use Rattle.rules.specs.Use.{set-on, strongest}
 use Rattle.rules.specs.Refusals.{done, test, ring-tests, single-beyond, not-envelope}
 use Rattle.rules.specs.Entries.{Strongest, strongest-of, strongest-answer}
-use Rattle.laws_rings.specs.Lines.{no-samples}
+use Rattle.laws_rings.specs.FewestCorners.{no-samples}
 use Rattle.laws_rings.specs.Strongest as rings
 use Rattle.samples.specs.Samples.{streams-length}
-use Rattle.envelope.specs.RingAnswers.{strongest-as}
+use Rattle.envelope.specs.UseAnswers.{strongest-as}
 use Rattle.envelope.specs.declared.strongest.StrongestSet.{StrongestSet}
 use Rattle.envelope.specs.declared.strongest.StrongestSet.the-variants as said
 use Rattle.envelope.proofs.strongest.strongest.Kinds as kinds

@@ -15,7 +15,7 @@ use Rattle.envelope.specs.declared.cover.Covered.{Covered}
 use Rattle.envelope.specs.declared.cover.Covered.the-variants as cover
 use Rattle.samples.specs.declared.answers.Counted.{Counted}
 use Rattle.samples.specs.CountedAnswers.{counted-injective}
-use Rattle.envelope.specs.RingAnswers.{strongest-as, covered-as}
+use Rattle.envelope.specs.UseAnswers.{strongest-as, covered-as}
 use Rattle.envelope.proofs.strongest.strongest.Kinds as strongest-kinds
 use Rattle.envelope.proofs.strongest.strongest.Reads as strongest-reads
 use Rattle.envelope.proofs.cover.cover.Kinds as cover-kinds

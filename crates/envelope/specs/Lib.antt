@@ -1,7 +1,7 @@
-pub mod RingAnswers
+pub mod UseAnswers
 pub mod Tests
-pub mod Walks
-pub mod Firsts
+pub mod RoundTheRing
+pub mod FirstBest
 pub mod Strongest
 pub mod Writes
 pub mod Turns

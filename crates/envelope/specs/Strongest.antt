@@ -12,7 +12,7 @@ use Rattle.rules.specs.Use.{set-on, strongest, strongest-place}
 use Rattle.rules.specs.Entries.{Strongest, strongest-of}
 use Rattle.laws_rings.specs.Strongest.{strongest-only, strongest-place-only}
 use Rattle.laws_outline.specs.ListLaws.{at-place-in}
-use Rattle.envelope.specs.Firsts.{First, first-unbeaten, stronger}
+use Rattle.envelope.specs.FirstBest.{First, first-unbeaten, stronger}
 
 abbrev pub greatest : ℤ → ℕ → Strongest
 greatest z r = record { set = z; place = r }

@@ -22,13 +22,13 @@ use Rattle.laws_outline.specs.TwoKeys.{two-keys-no}
 use Rattle.laws_outline.specs.SamePosition.{equal-same, no-same}
 use Rattle.laws_rings.specs.Rings.{envelope-ring}
 use Rattle.laws_rings.specs.Cycle.{Entered, enter, from-place, turn-from}
-use Rattle.laws_rings.specs.Lines.{no-samples}
+use Rattle.laws_rings.specs.FewestCorners.{no-samples}
 use Rattle.samples.specs.Positions.{Sampled}
 use Rattle.samples.specs.Samples.{streams-length, streams-easts, streams-norths}
 use Rattle.samples.specs.declared.answers.Counted.{Counted}
 use Rattle.samples.specs.CountedAnswers.{counted-as}
-use Rattle.envelope.specs.RingAnswers.{TurnPromise}
-use Rattle.envelope.specs.Firsts.{First, first-apart, first-unbeaten, nearer-entry, entry-orders}
+use Rattle.envelope.specs.UseAnswers.{TurnPromise}
+use Rattle.envelope.specs.FirstBest.{First, first-apart, first-unbeaten, nearer-entry, entry-orders}
 use Rattle.envelope.specs.Writes.{map-drop, map-take}
 
 -- the corners from place r on and round, with both signs changed, are the ring turned about

@@ -11,7 +11,7 @@ ghost use lib.ListN.{length};
 ghost use Rattle.rules.specs.Lists.{written};
 ghost use Rattle.rules.specs.Streams.{streams};
 ghost use Rattle.rules.specs.Use.{envelope};
-ghost use Rattle.envelope.specs.RingAnswers.{TurnPromise};
+ghost use Rattle.envelope.specs.UseAnswers.{TurnPromise};
 ghost use Rattle.envelope.specs.Turns.{Entry, AllNear, turned-from};
 use samples::answers::Counted;
 use samples::streams::at;

@@ -11,7 +11,7 @@ use Rattle.rules.specs.Refusals.{Answer, refused, done}
 use Rattle.rules.specs.Entries.{Strongest, easts, norths, counted}
 use Rattle.samples.specs.CountedAnswers.{counted-as}
 use Rattle.samples.specs.declared.answers.Counted.{Counted}
-use Rattle.closing.specs.RingOutcome.{Outcome}
+use Rattle.closing.specs.RingPromise.{Outcome}
 use Rattle.exports.specs.declared.rings.StrongestC.{StrongestC}
 use Rattle.exports.specs.declared.rings.CoverTold.{CoverTold}
 use Rattle.exports.specs.declared.counts.CountedC.{CountedC}

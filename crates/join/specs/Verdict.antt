@@ -20,9 +20,9 @@ use Rattle.samples.specs.declared.tests.Tested.{Tested}
 use Rattle.samples.specs.declared.tests.Tested.the-variants.{Passed, Refused}
 use Rattle.envelope.specs.Tests.{alone-tests, Sound}
 use Rattle.laws_stack.specs.Hills.{Hill, hill-placed, envelope-hill}
-use Rattle.walk.specs.Both.{Rings, both, count}
+use Rattle.walk.specs.TwoRings.{Rings, both, count}
 use Rattle.walk.specs.Places.{sample-first, sample-second}
-use Rattle.closing.specs.RingOutcome.{unless-short}
+use Rattle.closing.specs.RingPromise.{unless-short}
 
 module _ (es ns fs ms east north : List ℤ) (scratch : List ℕ) where
   abbrev pub joined-ring : List Stream

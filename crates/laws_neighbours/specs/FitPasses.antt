@@ -21,10 +21,10 @@ use Rattle.laws_outline.specs.TwoKeys.{yes-first-key, yes-second-key}
 use Rattle.laws_outline.specs.Sidedness.{side-mirrored, mirrored-twice, at-first-strictly-below, at-second-strictly-below}
 use Rattle.laws_outline.specs.Chains.{goes-edge, goes-turn, goes-next, upper-along}
 use Rattle.laws_outline.specs.Under.{Through}
-use Rattle.laws_rings.specs.Lines.{all-flush}
-use Rattle.laws_neighbours.specs.Test.{turns, closes, goes-round, neighbourly}
-use Rattle.laws_neighbours.specs.Local.{far-end, far-end-past, last-far, bends-ahead, bends-turn, turn-unmirrored}
-use Rattle.laws_neighbours.specs.Global.{Atop, Fit, fit-mirrored, upper-fits}
+use Rattle.laws_rings.specs.FewestCorners.{all-flush}
+use Rattle.laws_neighbours.specs.NeighbourTest.{turns, closes, goes-round, neighbourly}
+use Rattle.laws_neighbours.specs.TurnsMakeChain.{far-end, far-end-past, last-far, bends-ahead, bends-turn, turn-unmirrored}
+use Rattle.laws_neighbours.specs.ListsFit.{Atop, Fit, fit-mirrored, upper-fits}
 
 -- ---- the tests, from facts
 

@@ -1,6 +1,6 @@
-pub mod Test
-pub mod Local
-pub mod Global
-pub mod Split
+pub mod NeighbourTest
+pub mod TurnsMakeChain
+pub mod ListsFit
+pub mod PassingSplits
 pub mod FitPasses
 pub mod Recognised

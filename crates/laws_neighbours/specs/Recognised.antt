@@ -11,10 +11,10 @@ use Rattle.rules.specs.Use.{envelope}
 use Rattle.rules.specs.Soundings.{A-ring, tall, flat}
 use Rattle.laws_outline.specs.ListLaws.{same-true}
 use Rattle.laws_rings.specs.Rings.{envelope-ring}
-use Rattle.laws_rings.specs.Lines.{no-samples}
-use Rattle.laws_neighbours.specs.Test.{turns, closes, goes-round, neighbourly}
-use Rattle.laws_neighbours.specs.Global.{Parts, fit-ring, ring-parts}
-use Rattle.laws_neighbours.specs.Split.{split}
+use Rattle.laws_rings.specs.FewestCorners.{no-samples}
+use Rattle.laws_neighbours.specs.NeighbourTest.{turns, closes, goes-round, neighbourly}
+use Rattle.laws_neighbours.specs.ListsFit.{Parts, fit-ring, ring-parts}
+use Rattle.laws_neighbours.specs.PassingSplits.{split}
 use Rattle.laws_neighbours.specs.FitPasses.{fit-passes}
 
 -- what closes from two lists that fit is an envelope and passes

@@ -7,5 +7,5 @@ pub mod Chains
 pub mod SameOutline
 pub mod Numbers
 pub mod Bridges
-pub mod Prefix
-pub mod Steps
+pub mod StepLists
+pub mod StepsAtCut

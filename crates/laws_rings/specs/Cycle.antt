@@ -21,9 +21,9 @@ use Rattle.laws_outline.specs.ListLaws.{map-twice, map-in, answer}
 use Rattle.laws_outline.specs.SamePosition.{streams-equal, same-equal, equal-same, same-no, no-same}
 use Rattle.laws_outline.specs.Sidedness.{turned-twice}
 use Rattle.laws_outline.specs.Chains.{upper-is}
-use Rattle.laws_rings.specs.Mirror.{lower-turned}
+use Rattle.laws_rings.specs.FromBehind.{lower-turned}
 use Rattle.laws_rings.specs.Rings.{envelope-ring}
-use Rattle.laws_rings.specs.Lines.{closed-one}
+use Rattle.laws_rings.specs.FewestCorners.{closed-one}
 
 -- ---- closing two chains: an end that both have may be left out of either
 

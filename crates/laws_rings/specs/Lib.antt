@@ -1,7 +1,7 @@
 pub mod Reversed
-pub mod Mirror
+pub mod FromBehind
 pub mod Rings
-pub mod Lines
+pub mod FewestCorners
 pub mod Joins
 pub mod Turning
 pub mod Strongest

@@ -11,7 +11,7 @@ use Rattle.laws_outline.specs.ListLaws.{map-twice, map-in, in-map}
 use Rattle.laws_outline.specs.Sidedness.{turned-twice}
 use Rattle.laws_outline.specs.Under.{Behind, on-inside, turned-behind}
 use Rattle.laws_outline.specs.SameOutline.{ring-equal}
-use Rattle.laws_rings.specs.Mirror.{upper-turned, lower-turned}
+use Rattle.laws_rings.specs.FromBehind.{upper-turned, lower-turned}
 use Rattle.laws_rings.specs.Rings.{AllBehind, ring-behind, behind-ring, upper-of-ring, lower-of-ring, envelope-ring, ring-envelope}
 use Rattle.laws_rings.specs.Joins.{join-rings}
 

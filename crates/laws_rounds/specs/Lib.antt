@@ -1,9 +1,9 @@
-pub mod Items
+pub mod ListedItems
 pub mod Slopes
 pub mod Pairs
 pub mod Tops
 pub mod Rounds
-pub mod Values
+pub mod SameSlope
 pub mod Renaming
-pub mod Steps
+pub mod StepsAtMiddle
 pub mod WholeList

@@ -17,7 +17,7 @@ use Rattle.rules.specs.Round.{Slope, slope, slope-le, height, Group, pair, odd,
 use Rattle.laws_ranks.specs.Counts.{bit, count}
 use Rattle.laws_outline.specs.ListLaws.{is-no, not-both}
 use Rattle.laws_outline.specs.SamePosition.{streams-equal, same-equal, equal-same}
-use Rattle.laws_rounds.specs.Items.{first-of, or-else, first-of-append, first-goes, second-goes}
+use Rattle.laws_rounds.specs.ListedItems.{first-of, or-else, first-of-append, first-goes, second-goes}
 use Rattle.laws_rounds.specs.Slopes.{Up, lower-below, lower-left, lower-right, slope-at-least, slope-at-most}
 
 -- which pairs with a slope lose a sample: those of slope K or more, or those of slope K or less

@@ -24,7 +24,7 @@ use Rattle.laws_outline.specs.SamePosition.{no-same, same-equal, equal-same}
 use Rattle.laws_outline.specs.ListLaws.{both-yes, one-no, not-both}
 use Rattle.laws_outline.specs.Sidedness.{side-of-first, side-of-second}
 use Rattle.laws_outline.specs.Bridges.{BridgeOver, is-bridge, bridge-is, bridge-unique, bridge-survives, spans-is, is-spans, spans-bridge}
-use Rattle.laws_rounds.specs.Items.{first-of, first-of-some, first-of-in, kept-in}
+use Rattle.laws_rounds.specs.ListedItems.{first-of, first-of-some, first-of-in, kept-in}
 use Rattle.laws_rounds.specs.Slopes.{Up, MiddleSlope, middle-slope-is}
 use Rattle.laws_rounds.specs.Pairs.{Fits, loses, here, slopes-up, keep-in-order, tally, keep-first}
 use Rattle.laws_rounds.specs.Tops.{LeftTop, RightTop, left-top-is, right-top-is, tops-bridge, tops-west, tops-east}

@@ -19,7 +19,7 @@ use Rattle.laws_ranks.specs.Counts.{count, count-not}
 use Rattle.laws_ranks.specs.Ranks.{HasRank}
 use Rattle.laws_ranks.specs.RanksAmong.{OrderOn, ranked-holds-on, ranked-has-rank-on, rank-by-counts-on}
 use Rattle.laws_outline.specs.ListLaws.{same-true}
-use Rattle.laws_rounds.specs.Items.{T-true, false-T, not-not}
+use Rattle.laws_rounds.specs.ListedItems.{T-true, false-T, not-not}
 
 -- ---- the order
 

@@ -17,7 +17,7 @@ use Rattle.rules.specs.Round.{Slope, height, left-top, right-top}
 use Rattle.laws_outline.specs.ListLaws.{Ranks, Best, best-from-best}
 use Rattle.laws_outline.specs.TwoKeys.{two-keys-rank, two-keys-no}
 use Rattle.laws_outline.specs.Bridges.{BridgeOver}
-use Rattle.laws_rounds.specs.Items.{first-of, best-first}
+use Rattle.laws_rounds.specs.ListedItems.{first-of, best-first}
 use Rattle.laws_rounds.specs.Slopes.{Up, is-steeper, is-flatter, level-below, level-on}
 use Rattle.laws_rounds.specs.Pairs.{here}
 

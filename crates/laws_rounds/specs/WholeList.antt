@@ -18,7 +18,7 @@ use Rattle.rules.specs.Round.{round, rounds}
 use Rattle.rules.specs.Entries.{reported-bridge}
 use Rattle.laws_outline.specs.ListLaws.{is-some-of}
 use Rattle.laws_outline.specs.SamePosition.{equal-same}
-use Rattle.laws_rounds.specs.Items.{first-of}
+use Rattle.laws_rounds.specs.ListedItems.{first-of}
 use Rattle.laws_rounds.specs.Pairs.{here}
 use Rattle.laws_rounds.specs.Rounds.{Found, rounds-find, found-bridge}
 

@@ -14,7 +14,7 @@ use Rattle.whole.specs.Laws.{≤ℤ-total, ≤ℤ-trans, <ℤ→≤ℤ, test-lt
 use Rattle.rules.specs.Streams.{Stream, sample, side}
 use Rattle.rules.specs.Use.{envelope}
 use Rattle.laws_outline.specs.ListLaws.{both-yes, one-yes}
-use Rattle.laws_neighbours.specs.Test.{turns, goes-round, neighbourly}
+use Rattle.laws_neighbours.specs.NeighbourTest.{turns, goes-round, neighbourly}
 use Rattle.laws_neighbours.specs.Recognised.{recognised}
 
 -- from lo to before hi no place is west both of one before it and of one after it

@@ -17,7 +17,7 @@ use Rattle.rules.specs.Chain.{Samples, Turn, UpperChain, empty}
 use Rattle.laws_outline.specs.Sidedness.{side-crossed, below-at-second}
 use Rattle.laws_outline.specs.Under.{Under, on-self, on-inside, on-trans, under-between, under-at-east}
 use Rattle.laws_outline.specs.SameOutline.{same-outline}
-use Rattle.laws_neighbours.specs.Local.{Bends, ends, bends, bending-chain}
+use Rattle.laws_neighbours.specs.TurnsMakeChain.{Bends, ends, bends, bending-chain}
 use Rattle.laws_stack.specs.Places.{below-or-last, listed, listed-in, in-listed}
 
 -- the samples of S, and s

@@ -13,7 +13,7 @@ use Rattle.rules.specs.Refusals.{Answer, refused, done, scratch-after}
 use Rattle.rules.specs.Entries.{pick-answer}
 use Rattle.picker.specs.declared.Picked.{Picked}
 use Rattle.picker.specs.declared.Picked.the-variants.{Done, Refused}
-use Rattle.picker.specs.Outcome.{answer-of, PickPromise}
+use Rattle.picker.specs.Promise.{answer-of, PickPromise}
 
 module _ {xs : List ℤ} {r : ℕ} {given : List ℕ} where
   -- the promise is kept by what says the answer that the tests give

@@ -1,5 +1,5 @@
 pub mod Keys
 pub mod KeyLaws
 pub mod Picking
-pub mod Outcome
+pub mod Promise
 pub mod Unique

@@ -8,7 +8,7 @@ use lib.IntN.{ℤ}
 use Rattle.rules.specs.Refusals.{Answer, refused, done}
 use Rattle.picker.specs.declared.Picked.{Picked}
 use Rattle.picker.specs.declared.Picked.the-variants.{Done, Refused}
-use Rattle.picker.specs.Outcome.{answer-of, PickPromise}
+use Rattle.picker.specs.Promise.{answer-of, PickPromise}
 
 -- the enum's value that stands for an answer of the rules
 said-as : Answer ℤ → Picked

@@ -6,7 +6,7 @@ mod scan;
 
 ghost use lib.ListN.{take};
 ghost use Rattle.picker.specs.Picking.{Pickable, Picks, Grouped, Pivots};
-ghost use Rattle.picker.specs.Outcome.{PickPromise};
+ghost use Rattle.picker.specs.Promise.{PickPromise};
 use samples::tests::MOST;
 use samples::words::clear;
 

@@ -14,14 +14,14 @@ use Rattle.rules.specs.Ring.{ring}
 use Rattle.rules.specs.Refusals.{Answer, refused, done, output-after}
 use Rattle.rules.specs.Entries.{easts, norths, ring-answer, counted}
 use Rattle.rules.specs.Program.{most-lines, samples, ring-of-text, printed}
-use Rattle.laws_rounds.specs.Steps.{no-step-without-bridge}
+use Rattle.laws_rounds.specs.StepsAtMiddle.{no-step-without-bridge}
 use Rattle.samples.specs.Samples.{streams-length}
 use Rattle.text.specs.TextAnswers as text
-use Rattle.text.specs.Lines.{room-for-all, samples-few}
+use Rattle.text.specs.TextLines.{room-for-all, samples-few}
 use Rattle.samples.specs.CountedAnswers.{counted-as}
 use Rattle.samples.specs.declared.answers.Counted.{Counted}
 use Rattle.samples.specs.declared.answers.Counted.the-variants as counts
-use Rattle.closing.specs.RingOutcome.{Outcome}
+use Rattle.closing.specs.RingPromise.{Outcome}
 use Rattle.program.specs.Room.{ring-few, ring-of-samples-room}
 use Rattle.program.specs.Told.{told-refused, Told, told}
 

@@ -17,7 +17,7 @@ use Rattle.rules.specs.Refusals.{Answer, refused, done}
 use Rattle.rules.specs.Program.{most-lines, samples, printed-corners, printed, program}
 use Rattle.text.specs.Again.{samples-again}
 use Rattle.text.specs.Enough.{enough}
-use Rattle.text.specs.Lines.{samples-few}
+use Rattle.text.specs.TextLines.{samples-few}
 
 -- ---- the two forms
 

@@ -1,4 +1,4 @@
 pub mod RecordAnswers
-pub mod Corners
-pub mod Written
-pub mod Outcome
+pub mod RecordCorners
+pub mod RecordWritten
+pub mod ReadTests

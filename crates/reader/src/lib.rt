@@ -10,7 +10,7 @@ ghost use Rattle.rules.specs.Record.{word, twos};
 ghost use Rattle.rules.specs.Refusals.{output-after};
 ghost use Rattle.rules.specs.Entries.{record-corners, record-answer, easts, norths, counted};
 ghost use Rattle.samples.specs.HeldStream.{stream-of};
-ghost use Rattle.envelope.specs.Walks.{round-from};
+ghost use Rattle.envelope.specs.RoundTheRing.{round-from};
 ghost use Rattle.samples.specs.CountedAnswers.{counted-as};
 ghost use Rattle.reader.specs.RecordAnswers.{frame-number, Passed, Room};
 use envelope::test::closes;

@@ -10,11 +10,11 @@ use Rattle.rules.specs.Streams.{Stream, streams}
 use Rattle.rules.specs.Ring.{ring}
 use Rattle.rules.specs.Refusals.{Answer, refused, Test, test, unless}
 use Rattle.rules.specs.Entries.{step-without-bridge, ring-short, ring-answer}
-use Rattle.laws_rounds.specs.Steps.{no-step-without-bridge}
+use Rattle.laws_rounds.specs.StepsAtMiddle.{no-step-without-bridge}
 use Rattle.samples.specs.Tests.{tested-of, sample-tests, then-answer, answer-by, quiet-number}
 use Rattle.samples.specs.declared.tests.Tested.{Tested}
 use Rattle.samples.specs.declared.tests.Tested.the-variants.{Passed, Refused}
-use Rattle.closing.specs.RingOutcome.{unless-short, Outcome, outcome-refused}
+use Rattle.closing.specs.RingPromise.{unless-short, Outcome, outcome-refused}
 use Rattle.samples.specs.declared.answers.Counted.the-variants as counts
 
 module _ (es ns east north : List ℤ) (scratch : List ℕ) where

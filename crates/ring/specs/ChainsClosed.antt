@@ -21,8 +21,8 @@ use Rattle.laws_outline.specs.SameOutline.{lower-corners}
 use Rattle.samples.specs.Positions.{Near}
 use Rattle.samples.specs.Samples.{sample-near, streams-length}
 use Rattle.laws_stack.specs.Places.{listed, length-listed, listed-alike}
-use Rattle.walk.specs.Both.{Corners, both, count}
-use Rattle.closing.specs.Both.{Both, upper-at, lower-at}
+use Rattle.walk.specs.TwoRings.{Corners, both, count}
+use Rattle.closing.specs.TwoChains.{Both, upper-at, lower-at}
 use Rattle.samples.specs.Tests.{tested-of, sample-tests, passed-tests}
 use Rattle.samples.specs.declared.tests.Tested.the-variants.{Passed}
 use Rattle.chains.specs.BothSides.{BothAre, sides-ask}

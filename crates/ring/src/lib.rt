@@ -1,7 +1,7 @@
 // The ring of samples: both chains, made in scratch by chain steps, closed and written.
 
 ghost use Rattle.rules.specs.Entries.{ring-answer};
-ghost use Rattle.closing.specs.RingOutcome.{Outcome};
+ghost use Rattle.closing.specs.RingPromise.{Outcome};
 use chains::sides::Sides;
 use chains::sides::sides_of;
 use closing::close;

@@ -14,7 +14,7 @@ use Rattle.rules.specs.Streams.{Stream}
 use Rattle.rules.specs.Round.{Tops, pair, paired, keeps, keep}
 use Rattle.laws_ranks.specs.Kept.{byte-most, stored}
 use Rattle.round.specs.Keeping.{chosen, KeptFront}
-use Rattle.round.proofs.Places.{drop-two}
+use Rattle.round.proofs.TwoAtATime.{drop-two}
 
 both : (l : List ℕ) (x y : ℕ) (b c : Bool) → (l ++ consIf b x []) ++ consIf c y [] ≡ l ++ chosen b c x y
 both l x y true c = append-assoc l (x ∷ []) (consIf c y [])

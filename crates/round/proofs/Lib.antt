@@ -1,11 +1,11 @@
 pub mod RoundWords
-pub mod Places
-pub mod Pairing
-pub mod Sloping
+pub mod TwoAtATime
+pub mod PairSlope
+pub mod PairSlopes
 pub mod Topping
 pub mod Choosing
 pub mod Fronting
 pub mod Rounding
-pub mod Saying
+pub mod SayingCases
 pub mod Answering
 pub mod Outcomes

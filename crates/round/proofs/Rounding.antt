@@ -14,7 +14,7 @@ use Rattle.rules.specs.Bridge.{ends}
 use Rattle.rules.specs.Round.{Slope, slope-le, Group, pair, odd, paired, found, kept, Tops, unsought, west, slope-of, with-slope, slopes, left-of, right-of, keeps-of, keep, decided, round-with, round-by, round}
 use Rattle.laws_ranks.specs.Ranks.{HasRank}
 use Rattle.laws_rounds.specs.Slopes.{Up}
-use Rattle.laws_rounds.specs.Values.{round-by-counts}
+use Rattle.laws_rounds.specs.SameSlope.{round-by-counts}
 use Rattle.round.specs.declared.tops.Tops as code
 use Rattle.round.specs.Tops.{Topped}
 use Rattle.round.specs.Keeping.{towards}

@@ -12,7 +12,7 @@ use Rattle.rules.specs.Round.{Slope}
 use Rattle.slopes.specs.Fractions.{fraction, fraction-at, fractions, Part, Pickable, Picked}
 use Rattle.slopes.specs.Passes.{Listed, Answers, Alike, copied, Copied, Gatherable, Gathered, Pivoted}
 use Rattle.slopes.specs.Order.{level-ranked}
-use Rattle.slopes.specs.Laws.{place-of, near-of, fraction-in, fractions-alike, part-is, sound-alike, alike-trans, length-put, put-alike, put-rise, put-run}
+use Rattle.slopes.specs.ScratchLaws.{place-of, near-of, fraction-in, fractions-alike, part-is, sound-alike, alike-trans, length-put, put-alike, put-rise, put-run}
 use Rattle.slopes.specs.PassLaws.{fewer-listed, forward}
 
 -- ---- a pivot: the slopes stand as they came

@@ -1,7 +1,7 @@
 pub mod Fractions
 pub mod Passes
 pub mod Order
-pub mod Laws
+pub mod ScratchLaws
 pub mod PassLaws
 pub mod PivotSteps
 pub mod ShortLists

@@ -18,7 +18,7 @@ use Rattle.laws_ranks.specs.Ranks.{HasRank, under, upto, over}
 use Rattle.slopes.specs.Fractions.{fraction, fraction-at, fractions, put, Part, Sound, Pickable, Near}
 use Rattle.slopes.specs.Passes.{Shows, Stands, Listed, Roomy, Counted, Kept, Parted, Alike, copied}
 use Rattle.slopes.specs.declared.scan.Counts.{Counts}
-use Rattle.slopes.specs.Laws.{near-part, one-more, length-fractions, near-of, fractions-alike, part-is, sound-alike, length-put, put-other, put-alike, put-rise, put-run, fractions-put, sound-put, sound-none, drop-put, drop-put-before}
+use Rattle.slopes.specs.ScratchLaws.{near-part, one-more, length-fractions, near-of, fractions-alike, part-is, sound-alike, length-put, put-other, put-alike, put-rise, put-run, fractions-put, sound-put, sound-none, drop-put, drop-put-before}
 
 -- ---- the words of one slope
 

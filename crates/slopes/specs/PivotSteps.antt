@@ -16,7 +16,7 @@ use Rattle.slopes.specs.Passes.{Counted, Kept, Answers, Narrowed}
 use Rattle.slopes.specs.declared.scan.Counts.{Counts}
 use Rattle.laws_rounds.specs.Slopes.{slope-order}
 use Rattle.slopes.specs.Order.{rank-below-on, rank-above-on, fewer-below, fewer-above}
-use Rattle.slopes.specs.Laws.{length-fractions}
+use Rattle.slopes.specs.ScratchLaws.{length-fractions}
 use Rattle.slopes.specs.PassLaws.{forward, counted-rank, upto-count}
 
 module _ {n r : ℕ} {w : List ℕ} {p : Slope} {c : Counts} (ask : Pickable n r w) (m : List·Memᴰ p (fractions n w)) (h : Counted n w p c) where

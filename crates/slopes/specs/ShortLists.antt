@@ -15,7 +15,7 @@ use Rattle.slopes.specs.Fractions.{fraction, fraction-at, fractions, put
 use Rattle.slopes.specs.Passes.{Listed, Lifted}
 use Rattle.slopes.specs.declared.Fraction.{Fraction}
 use Rattle.laws_rounds.specs.Slopes.{slope-order}
-use Rattle.slopes.specs.Laws.{near-part, one-more, near-of, part-is, length-put, put-other, fractions-put, sound-put, sound-none}
+use Rattle.slopes.specs.ScratchLaws.{near-part, one-more, near-of, part-is, length-put, put-other, fractions-put, sound-put, sound-none}
 
 -- the slope of the words that the code holds
 abbrev pub held : Fraction → Slope

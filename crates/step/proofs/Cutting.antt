@@ -17,7 +17,7 @@ use Rattle.picker.specs.KeyLaws.{picked-number}
 use Rattle.picker.specs.Picking.{Picks}
 use Rattle.picker.specs.declared.Ranked.{Ranked}
 use Rattle.samples.specs.Positions.{east-of}
-use Rattle.step.specs.Parts.{paste-front, paste-part}
+use Rattle.step.specs.Pasting.{paste-front, paste-part}
 use Rattle.step.specs.Stepping.{CutAsks}
 
 module _ {es : List ℤ} {w : List ℕ} {t : ℕ} (asks : CutAsks es w t) where

@@ -11,7 +11,7 @@ use lib.ListN.{length, take, drop, length-drop}
 use lib.Seq.{paste, drop-drop, take-add, length-take-le, length-paste}
 use Rattle.laws_outline.specs.ListLaws.{those-most}
 use Rattle.samples.specs.Positions.{Listed, east-of}
-use Rattle.step.specs.Parts.{CopyAsks, same-part, part-long, front-first, front-second, paste-part}
+use Rattle.step.specs.Pasting.{CopyAsks, same-part, part-long, front-first, front-second, paste-part}
 use Rattle.step.specs.NumberLists.{past, beyond-numbers, BeyondAsks, Beyond}
 use Rattle.step.specs.Stepping.{HalvesAsk, HalvesSay}
 

@@ -20,9 +20,9 @@ use Rattle.rules.specs.Step.{cut}
 use Rattle.laws_outline.specs.ListLaws.{those-in, yes-both, not-both}
 use Rattle.laws_outline.specs.Bridges.{BothSides, spans-is}
 use Rattle.laws_rounds.specs.Rounds.{found-in}
-use Rattle.laws_rounds.specs.Steps.{ready-spans, BySteps, no-step}
+use Rattle.laws_rounds.specs.StepsAtMiddle.{ready-spans, BySteps, no-step}
 use Rattle.samples.specs.Positions.{at, east-of, Listed}
-use Rattle.step.specs.Parts.{CopyAsks, same-part, paste-front, paste-part}
+use Rattle.step.specs.Pasting.{CopyAsks, same-part, paste-front, paste-part}
 use Rattle.step.specs.Chaining.{Chainable, left-numbers, right-numbers, left-chainable, right-chainable, steps-on}
 use Rattle.step.specs.Stepping.{number-at, CutAsks, CutSays, SplitAsks, SplitAt, ChainAsks, StepAsks, ChainIs}
 use Rattle.step.specs.StepCut.{list-long, ready, two, is-cut, split-list, left-few, right-few}

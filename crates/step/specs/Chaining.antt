@@ -14,10 +14,10 @@ use Rattle.rules.specs.Chain.{Of}
 use Rattle.rules.specs.Bridge.{ends}
 use Rattle.rules.specs.Step.{cut, cut-bridge, left-list, right-list}
 use Rattle.laws_outline.specs.Bridges.{BridgeOver, is-bridge}
-use Rattle.laws_outline.specs.Steps.{Ready, ready-two, left-list-ready, right-list-ready}
+use Rattle.laws_outline.specs.StepsAtCut.{Ready, ready-two, left-list-ready, right-list-ready}
 use Rattle.laws_rounds.specs.Rounds.{Found}
-use Rattle.laws_rounds.specs.Steps.{Halved, cut-halves, BySteps, one-step, left-list-map, right-list-map}
-use Rattle.step.specs.Named.{Named, named-those, named-cons, named-first}
+use Rattle.laws_rounds.specs.StepsAtMiddle.{Halved, cut-halves, BySteps, one-step, left-list-map, right-list-map}
+use Rattle.step.specs.LowestFirst.{Named, named-those, named-cons, named-first}
 
 -- the numbers of the left list of i, and of the right list of j
 abbrev pub left-numbers : (ℕ → Stream) → ℕ → List ℕ → List ℕ

@@ -17,7 +17,7 @@ use Rattle.rules.specs.Streams.{Stream, eqZ}
 use Rattle.rules.specs.Chain.{Samples, Of, LeftEnd, RightEnd, leftmost, rightmost}
 use Rattle.laws_outline.specs.ListLaws.{Ranks, Best, best-from-best}
 use Rattle.laws_outline.specs.TwoKeys.{two-keys-rank, two-keys-no}
-use Rattle.laws_rounds.specs.Items.{first-of, best-first}
+use Rattle.laws_rounds.specs.ListedItems.{first-of, best-first}
 use Rattle.laws_rounds.specs.Pairs.{here}
 use Rattle.laws_rounds.specs.WholeList.{numbers, numbers-length, numbers-at}
 

@@ -1,8 +1,8 @@
-pub mod Parts
+pub mod Pasting
 pub mod NumberLists
 pub mod Ends
-pub mod Named
+pub mod LowestFirst
 pub mod Chaining
 pub mod Stepping
-pub mod First
+pub mod FirstList
 pub mod StepCut

@@ -11,7 +11,7 @@ use lib.Seq.{length-take-le}
 use Rattle.rules.specs.Streams.{Stream}
 use Rattle.rules.specs.Picker.{rank}
 use Rattle.rules.specs.Step.{cut}
-use Rattle.laws_outline.specs.Steps.{Ready, ready-two}
+use Rattle.laws_outline.specs.StepsAtCut.{Ready, ready-two}
 use Rattle.samples.specs.Positions.{at}
 use Rattle.step.specs.Chaining.{left-half, right-half}
 use Rattle.step.specs.Stepping.{number-at, CutSays, SplitAt, StepAsks}

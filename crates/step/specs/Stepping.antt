@@ -14,7 +14,7 @@ use Rattle.rules.specs.Chain.{lowest}
 use Rattle.rules.specs.Picker.{rank}
 use Rattle.rules.specs.Bridge.{ends, spans}
 use Rattle.laws_rounds.specs.Rounds.{Found}
-use Rattle.laws_rounds.specs.Steps.{BySteps}
+use Rattle.laws_rounds.specs.StepsAtMiddle.{BySteps}
 use Rattle.samples.specs.Positions.{at, east-of, Sampled, Listed}
 use Rattle.step.specs.Chaining.{Chainable}
 use Rattle.step.specs.NumberLists.{beyond-numbers}

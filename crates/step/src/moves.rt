@@ -2,7 +2,7 @@
 ghost use mathlib.Core.Path.{_≡_};
 ghost use lib.ListN.{drop};
 ghost use lib.Seq.{paste};
-ghost use Rattle.step.specs.Parts.{CopyAsks};
+ghost use Rattle.step.specs.Pasting.{CopyAsks};
 
 // The n words from `from` on stand at `to` and after it too. They may lie over their copies only where they move to the front.
 pub fn copy(w: &mut [u32], from: usize, to: usize, n: usize)

@@ -20,7 +20,7 @@ use Rattle.rules.specs.Program.{unbroken, broken, cut-at, space, newline, negat
 use Rattle.text.specs.Cuts.{is, first-place-within, cut-found, cut-none}
 use Rattle.text.specs.Digits.{unsigned-long}
 use Rattle.text.specs.TextAnswers.{Next, bad-line, good-line, before-rest, next-line}
-use Rattle.text.specs.Lines.{text-bad, text-good}
+use Rattle.text.specs.TextLines.{text-bad, text-good}
 
 -- ---- a good line is short
 

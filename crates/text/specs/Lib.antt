@@ -1,11 +1,11 @@
 pub mod TextAnswers
 pub mod Cuts
 pub mod Digits
-pub mod Lines
+pub mod TextLines
 pub mod Writing
 pub mod Placed
 pub mod Naturals
-pub mod Corners
+pub mod PrintedCorners
 pub mod Enough
 pub mod Room
 pub mod Again

@@ -14,7 +14,7 @@ use Rattle.rules.specs.Lists.{some-of}
 use Rattle.rules.specs.Streams.{Stream, within, beyond, limit}
 use Rattle.rules.specs.Refusals.{refused, done}
 use Rattle.rules.specs.Program.{digit-zero, digits, space, newline, printed-natural, printed-whole, printed-corners, printed}
-use Rattle.text.specs.Corners.{printed-corner, corner-length, refusal-length, ring-length}
+use Rattle.text.specs.PrintedCorners.{printed-corner, corner-length, refusal-length, ring-length}
 
 -- ---- numbers
 

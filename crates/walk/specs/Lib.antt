@@ -1,4 +1,4 @@
-pub mod Both
+pub mod TwoRings
 pub mod Places
 pub mod Stacks
 pub mod StreamTests

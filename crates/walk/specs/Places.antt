@@ -13,7 +13,7 @@ use Rattle.whole.specs.Fits.{[]ʷ, _∷ʷ_, value-within}
 use Rattle.rules.specs.Streams.{Stream, stream, streams, sample}
 use Rattle.samples.specs.Positions.{Near}
 use Rattle.samples.specs.Samples.{streams-length}
-use Rattle.walk.specs.Both.{both, count, facing, corner-at, Corners}
+use Rattle.walk.specs.TwoRings.{both, count, facing, corner-at, Corners}
 
 module _ (es ns fs ms : List ℤ) (even : length es ≡ length ns) where
   first-length : length (streams es ns) ≡ length es

@@ -15,7 +15,7 @@ use Rattle.laws_stack.specs.Places.{below-or-last}
 use Rattle.laws_stack.specs.Stack.{Before}
 use Rattle.laws_stack.specs.Hills.{hill-inside}
 use Rattle.laws_stack.specs.DrawnWalk.{Left, Comes, skips, tops, walk-start, walk-on, walk-end}
-use Rattle.walk.specs.Both.{Rings, count, corner-at, listed-at, Spans, Drawn, Stand, Settled, Next, Hides, Taken, Walking, Chained}
+use Rattle.walk.specs.TwoRings.{Rings, count, corner-at, listed-at, Spans, Drawn, Stand, Settled, Next, Hides, Taken, Walking, Chained}
 
 -- k at place t of w
 module _ (w : List ℕ) (t k : ℕ) (room : t < length w) where

@@ -7,7 +7,7 @@ ghost use lib.ListN.{length};
 ghost use Rattle.samples.specs.Positions.{Near};
 ghost use Rattle.samples.specs.HeldStream.{stream-of};
 ghost use Rattle.laws_stack.specs.Stack.{stays};
-ghost use Rattle.walk.specs.Both.{Corners, Rings, count, corner-at, listed-at, Stand, Coming, Settled, Next, Hides, Taken, Chained};
+ghost use Rattle.walk.specs.TwoRings.{Corners, Rings, count, corner-at, listed-at, Stand, Coming, Settled, Next, Hides, Taken, Chained};
 use crate::corners::listed;
 use crate::corners::seen;
 use crate::corners::south;

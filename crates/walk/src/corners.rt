@@ -7,7 +7,7 @@ ghost use lib.ListN.{length, getD};
 ghost use Rattle.rules.specs.Streams.{sample, same};
 ghost use Rattle.samples.specs.Positions.{Near};
 ghost use Rattle.samples.specs.HeldStream.{stream-of};
-ghost use Rattle.walk.specs.Both.{Corners, both, count, facing, corner-at, listed-at};
+ghost use Rattle.walk.specs.TwoRings.{Corners, both, count, facing, corner-at, listed-at};
 use samples::streams::Stream;
 use samples::streams::at;
 

@@ -2,7 +2,7 @@
 
 ghost use mathlib.Core.Path.{_≡_};
 ghost use Rattle.laws_stack.specs.DrawnWalk.{Draws};
-ghost use Rattle.walk.specs.Both.{Corners, Span, WestEnd, Spans, Drawn, AtFirst, AtSecond};
+ghost use Rattle.walk.specs.TwoRings.{Corners, Span, WestEnd, Spans, Drawn, AtFirst, AtSecond};
 use crate::corners::seen;
 use crate::corners::west;
 

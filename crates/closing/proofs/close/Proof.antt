@@ -7,7 +7,7 @@ use denote.Ref.{now}
 use lib.ListN.{length}
 use Rattle.laws_stack.specs.ClosedPlaces.{closes-ring}
 use Rattle.samples.specs.Tests.{fits-both}
-use Rattle.closing.specs.Written.{outcome-short, outcome-done}
+use Rattle.closing.specs.RingWritten.{outcome-short, outcome-done}
 use Rattle.closing.proofs.close.Statement.{statement}
 use Rattle.closing.proofs.close.Tie as tie
 

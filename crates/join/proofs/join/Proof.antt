@@ -7,7 +7,7 @@ use borrow.Author.Needs.{needs}
 use denote.Ref.{now}
 use Rattle.rules.specs.Streams.{Stream}
 use Rattle.rules.specs.Refusals.{Answer}
-use Rattle.closing.specs.RingOutcome.{Outcome, outcome-refused}
+use Rattle.closing.specs.RingPromise.{Outcome, outcome-refused}
 use Rattle.samples.specs.Tests.{tested-of, quiet-number}
 use Rattle.samples.specs.declared.tests.Tested.the-variants.{Passed}
 use Rattle.envelope.specs.Tests.{alone-tests, sound}

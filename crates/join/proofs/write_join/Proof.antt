@@ -5,8 +5,8 @@ use Prim.Native.Nat.{_-_}
 use borrow.Author.Needs.{needs}
 use borrow.Rule.Slice.PartMut.{same-len-mid}
 use lib.ListN.{length}
-use Rattle.closing.specs.RingOutcome.{outcome-from}
-use Rattle.join.specs.Ring.{chained-both, chained-ring}
+use Rattle.closing.specs.RingPromise.{outcome-from}
+use Rattle.join.specs.ChainsClosed.{chained-both, chained-ring}
 use Rattle.join.proofs.write_join.Statement.{statement}
 use Rattle.join.proofs.write_join.Tie as tie
 

@@ -6,8 +6,8 @@ use Prim.Native.Nat.{_-_, _≤_, _+_}
 use native.Mathlib.Omega.{arith}
 use borrow.Author.Tests.{not-true, not-false}
 use Rattle.rules.specs.Entries.{record-corners}
-use Rattle.laws_neighbours.specs.Test.{turns, closes}
-use Rattle.envelope.specs.Walks.{round-from, round-more, round-end}
+use Rattle.laws_neighbours.specs.NeighbourTest.{turns, closes}
+use Rattle.envelope.specs.RoundTheRing.{round-from, round-more, round-end}
 use Rattle.reader.specs.RecordAnswers.{read-near}
 use Rattle.reader.proofs.goes_round.Statement.{statement}
 use Rattle.reader.proofs.goes_round.Tie as tie

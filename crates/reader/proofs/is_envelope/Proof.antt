@@ -10,7 +10,7 @@ use Rattle.rules.specs.Chain.{leftmost}
 use Rattle.rules.specs.Entries.{record-corners}
 use Rattle.laws_neighbours.specs.Recognised.{recognised}
 use Rattle.samples.specs.StreamWords.{read, held}
-use Rattle.envelope.specs.Walks.{round-from, few-pass, two-pass, more-pass}
+use Rattle.envelope.specs.RoundTheRing.{round-from, few-pass, two-pass, more-pass}
 use Rattle.reader.specs.RecordAnswers.{read-near}
 use Rattle.reader.proofs.is_envelope.Statement.{statement}
 use Rattle.reader.proofs.is_envelope.Tie as tie

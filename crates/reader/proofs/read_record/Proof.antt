@@ -16,8 +16,8 @@ use Rattle.rules.specs.Entries.{record-corners}
 use Rattle.samples.specs.Samples.{sample-near}
 use Rattle.samples.specs.Tests.{fits-both}
 use Rattle.reader.specs.RecordAnswers.{frame-number}
-use Rattle.reader.specs.Corners.{record-count}
-use Rattle.reader.specs.Outcome.{refused-frame, refused-2, refused-3, refused-9, short, answered, long-enough, none-beyond}
+use Rattle.reader.specs.RecordCorners.{record-count}
+use Rattle.reader.specs.ReadTests.{refused-frame, refused-2, refused-3, refused-9, short, answered, long-enough, none-beyond}
 use Rattle.reader.proofs.read_record.Statement.{statement}
 use Rattle.reader.proofs.read_record.Tie as tie
 

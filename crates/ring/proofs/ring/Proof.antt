@@ -8,7 +8,7 @@ use Rattle.samples.specs.declared.tests.Tested.{Tested}
 use Rattle.samples.specs.declared.tests.Tested.the-variants.{Passed}
 use Rattle.chains.specs.declared.sides.Sides.{Sides}
 use Rattle.chains.specs.BothSides.{SidesSay, BothAre, sides-ask}
-use Rattle.closing.specs.RingOutcome.{outcome-as, outcome-from}
+use Rattle.closing.specs.RingPromise.{outcome-as, outcome-from}
 use Rattle.ring.specs.ChainsClosed.{samples-corners, sides-closed, sides-both}
 use Rattle.ring.specs.Answers.{refused-early, passed-late}
 use Rattle.ring.proofs.ring.Statement.{statement}

@@ -9,7 +9,7 @@ use lib.ListN.{length}
 use borrow.Rule.Slice.PartMut.{take-put, same-len-mid}
 use Rattle.slopes.specs.Fractions.{as-slope}
 use Rattle.slopes.specs.Passes.{Listed, Gatherable, Pivotable}
-use Rattle.slopes.specs.Laws.{alike-take}
+use Rattle.slopes.specs.ScratchLaws.{alike-take}
 use Rattle.slopes.specs.PassLaws.{listed, fewer-listed, stands}
 use Rattle.slopes.specs.Gathering.{pivoted-in, pivoted-asks, pivoted-answer, pivot-here, gathered-asks, gathered-pivot}
 use borrow.Fn.Kinds.{In}

@@ -16,7 +16,7 @@ use Rattle.rules.specs.Bridge.{ends, spans}
 use Rattle.laws_rounds.specs.Rounds.{Found}
 use Rattle.samples.specs.Positions.{at, Listed}
 use Rattle.bridge.specs.Promise.{BridgeAsks}
-use Rattle.step.specs.Parts.{paste-front, paste-part}
+use Rattle.step.specs.Pasting.{paste-front, paste-part}
 use Rattle.step.proofs.bridge_behind.Statement.{statement}
 use Rattle.step.proofs.bridge_behind.Tie as tie
 

@@ -8,7 +8,7 @@ use native.Mathlib.Omega.{arith}
 use denote.Ref.{now}
 use Rattle.rules.specs.Streams.{same}
 use Rattle.laws_stack.specs.ClosedPlaces.{closes-none, closes-all, closes-left, closes-open}
-use Rattle.closing.specs.Both.{upper-at, lower-at}
+use Rattle.closing.specs.TwoChains.{upper-at, lower-at}
 use Rattle.closing.proofs.lower.left_in.Statement.{statement}
 use Rattle.closing.proofs.lower.left_in.Tie as tie
 

@@ -11,9 +11,9 @@ use mir.Facts.{toZ-ofZ}
 use denote.Ref.{now}
 use Rattle.samples.specs.HeldStream.{stream-of}
 use Rattle.laws_stack.specs.Places.{listed, written-on}
-use Rattle.walk.specs.Both.{listed-at}
-use Rattle.closing.specs.Both.{ring-corner}
-use Rattle.closing.specs.Both.{ring-place-below, ring-corner-at}
+use Rattle.walk.specs.TwoRings.{listed-at}
+use Rattle.closing.specs.TwoChains.{ring-corner}
+use Rattle.closing.specs.TwoChains.{ring-place-below, ring-corner-at}
 use Rattle.walk.specs.StreamTests.{east-of, north-of}
 use Rattle.closing.proofs.writing.put.Statement.{statement}
 use Rattle.closing.proofs.writing.put.Tie as tie

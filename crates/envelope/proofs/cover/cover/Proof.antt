@@ -17,7 +17,7 @@ use Rattle.samples.specs.Tests.{tested-of, then-answer, answer-by}
 use Rattle.samples.specs.declared.tests.Tested.{Tested}
 use Rattle.samples.specs.StreamWords.{read}
 use Rattle.envelope.specs.Tests.{stream-tests, stream-passed}
-use Rattle.envelope.specs.Walks.{inside-from, few-cover, enough-cover}
+use Rattle.envelope.specs.RoundTheRing.{inside-from, few-cover, enough-cover}
 use Rattle.envelope.proofs.cover.cover.Statement.{statement}
 use Rattle.envelope.proofs.cover.cover.Tie as tie
 

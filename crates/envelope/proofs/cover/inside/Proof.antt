@@ -12,7 +12,7 @@ use borrow.Author.Tests.{not-true, not-false}
 use Rattle.rules.specs.Streams.{Stream, streams, side}
 use Rattle.samples.specs.HeldStream.{stream-of}
 use Rattle.samples.specs.Samples.{streams-length, read-near}
-use Rattle.envelope.specs.Walks.{inside-from, inside-more, inside-end}
+use Rattle.envelope.specs.RoundTheRing.{inside-from, inside-more, inside-end}
 use Rattle.envelope.proofs.cover.inside.Statement.{statement}
 use Rattle.envelope.proofs.cover.inside.Tie as tie
 

@@ -22,7 +22,7 @@ use Rattle.samples.specs.Tests.{tested-of, then-answer, answer-by, refuses, pas
 use Rattle.samples.specs.declared.tests.Tested.{Tested}
 use Rattle.samples.specs.StreamWords.{read}
 use Rattle.envelope.specs.Tests.{stream-tests, stream-passed}
-use Rattle.envelope.specs.Firsts.{First, stronger}
+use Rattle.envelope.specs.FirstBest.{First, stronger}
 use Rattle.envelope.specs.Strongest.{greatest, first-strongest}
 use Rattle.envelope.proofs.strongest.strongest.Statement.{statement}
 use Rattle.envelope.proofs.strongest.strongest.Tie as tie

@@ -12,7 +12,7 @@ use mir.Facts.{toZ-ofZ}
 use Rattle.rules.specs.Streams.{streams, sample}
 use Rattle.rules.specs.Use.{set-on}
 use Rattle.samples.specs.Samples.{read-near}
-use Rattle.envelope.specs.Firsts.{First, stronger, stronger-orders, first-one, first-taken, first-left}
+use Rattle.envelope.specs.FirstBest.{First, stronger, stronger-orders, first-one, first-taken, first-left}
 use Rattle.envelope.proofs.strongest.strongest_place.Statement.{statement}
 use Rattle.envelope.proofs.strongest.strongest_place.Tie as tie
 

@@ -4,7 +4,7 @@ use mathlib.Core.Path.{sym, ap, ap₂, _∙_}
 use mathlib.Core.Bool.{Bool, _&&_}
 use lib.Signed.{leZ}
 use borrow.Author.Needs.{needs}
-use Rattle.laws_neighbours.specs.Test.{closes}
+use Rattle.laws_neighbours.specs.NeighbourTest.{closes}
 use Rattle.samples.specs.StreamWords.{held}
 use Rattle.envelope.proofs.test.closes.Statement.{statement}
 use Rattle.envelope.proofs.test.closes.Tie as tie

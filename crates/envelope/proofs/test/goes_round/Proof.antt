@@ -8,9 +8,9 @@ use native.Mathlib.Omega.{arith}
 use lib.ListN.{length}
 use borrow.Author.Tests.{not-true, not-false}
 use Rattle.rules.specs.Streams.{Stream, streams}
-use Rattle.laws_neighbours.specs.Test.{turns, closes}
+use Rattle.laws_neighbours.specs.NeighbourTest.{turns, closes}
 use Rattle.samples.specs.Samples.{streams-length, read-near}
-use Rattle.envelope.specs.Walks.{round-from, round-more, round-end}
+use Rattle.envelope.specs.RoundTheRing.{round-from, round-more, round-end}
 use Rattle.envelope.proofs.test.goes_round.Statement.{statement}
 use Rattle.envelope.proofs.test.goes_round.Tie as tie
 

@@ -14,7 +14,7 @@ use Rattle.rules.specs.Use.{envelope}
 use Rattle.laws_neighbours.specs.Recognised.{recognised}
 use Rattle.samples.specs.Samples.{streams-length, read-near}
 use Rattle.samples.specs.StreamWords.{read, held}
-use Rattle.envelope.specs.Walks.{round-from, few-pass, two-pass, more-pass}
+use Rattle.envelope.specs.RoundTheRing.{round-from, few-pass, two-pass, more-pass}
 use Rattle.envelope.proofs.test.is_envelope.Statement.{statement}
 use Rattle.envelope.proofs.test.is_envelope.Tie as tie
 

@@ -6,7 +6,7 @@ use lib.IntN.{pos}
 use lib.Signed.{ltZ}
 use borrow.Author.Needs.{needs}
 use Rattle.rules.specs.Streams.{side}
-use Rattle.laws_neighbours.specs.Test.{turns}
+use Rattle.laws_neighbours.specs.NeighbourTest.{turns}
 use Rattle.samples.specs.HeldStream.{stream-of}
 use Rattle.samples.specs.StreamWords.{held}
 use Rattle.envelope.proofs.test.turns.Statement.{statement}

@@ -9,7 +9,7 @@ use lib.ListN.{length}
 use Rattle.rules.specs.Streams.{Stream, streams, sample}
 use Rattle.rules.specs.Chain.{leftmost}
 use Rattle.samples.specs.Samples.{streams-length}
-use Rattle.envelope.specs.Firsts.{First, nearer-entry, entry-orders, first-one, first-taken, first-left}
+use Rattle.envelope.specs.FirstBest.{First, nearer-entry, entry-orders, first-one, first-taken, first-left}
 use Rattle.envelope.specs.Turns.{entered-at}
 use Rattle.envelope.proofs.turn.entry.Statement.{statement}
 use Rattle.envelope.proofs.turn.entry.Tie as tie

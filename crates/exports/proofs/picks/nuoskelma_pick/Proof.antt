@@ -2,7 +2,7 @@
 -- Assumes nothing.
 use mathlib.Core.Path.{ap, sym, _∙_}
 use borrow.Author.Needs.{needs}
-use Rattle.picker.specs.Outcome.{answer-of}
+use Rattle.picker.specs.Promise.{answer-of}
 use Rattle.exports.specs.Picks.{picked-face}
 use Rattle.exports.proofs.picks.nuoskelma_pick.Statement.{statement}
 use Rattle.exports.proofs.picks.nuoskelma_pick.Tie as tie

@@ -6,7 +6,7 @@ use mir.Syntax.{w32}
 use mir.ValLaws.{toZ-ofZ}
 use borrow.Author.Needs.{needs}
 use Rattle.rules.specs.Entries.{cover-answer}
-use Rattle.envelope.specs.RingAnswers.{covered-as}
+use Rattle.envelope.specs.UseAnswers.{covered-as}
 use Rattle.envelope.proofs.cover.cover.Reads as entry
 use Rattle.exports.specs.Rings.{cover-face}
 use Rattle.exports.proofs.rings.nuoskelma_cover.Statement.{statement}

@@ -6,7 +6,7 @@ use mir.Syntax.{w32}
 use mir.ValLaws.{toZ-ofZ}
 use borrow.Author.Needs.{needs}
 use Rattle.rules.specs.Entries.{strongest-answer}
-use Rattle.envelope.specs.RingAnswers.{strongest-as}
+use Rattle.envelope.specs.UseAnswers.{strongest-as}
 use Rattle.envelope.proofs.strongest.strongest.Reads as entry
 use Rattle.exports.specs.Rings.{strongest-face}
 use Rattle.exports.proofs.rings.nuoskelma_strongest.Statement.{statement}

@@ -15,7 +15,7 @@ use Rattle.slopes.specs.Fractions.{as-slope, Sound}
 use Rattle.samples.specs.Positions.{at, Listed}
 use Rattle.samples.specs.Samples.{listed-at}
 use Rattle.round.specs.Saying.{FinishSays}
-use Rattle.round.proofs.Saying.{level-near, two-says, without-says, picked-says}
+use Rattle.round.proofs.SayingCases.{level-near, two-says, without-says, picked-says}
 use Rattle.round.proofs.core.round_of.Statement.{statement}
 use Rattle.round.proofs.core.round_of.Tie as tie
 

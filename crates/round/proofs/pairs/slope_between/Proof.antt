@@ -15,7 +15,7 @@ use Rattle.whole.specs.Fits.{step-fits, word, lt-is}
 use Rattle.samples.specs.Positions.{Near}
 use Rattle.round.specs.Slopes.{PairSlope}
 use Rattle.round.proofs.RoundWords.{two-leaves, cast-unsigned, unsigned-is}
-use Rattle.round.proofs.Pairing.{up-to-first, up-to-second, slope-west, slope-east, no-slope}
+use Rattle.round.proofs.PairSlope.{up-to-first, up-to-second, slope-west, slope-east, no-slope}
 use Rattle.round.proofs.pairs.slope_between.Statement.{statement}
 use Rattle.round.proofs.pairs.slope_between.Tie as tie
 

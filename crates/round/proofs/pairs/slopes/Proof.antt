@@ -6,7 +6,7 @@ use lib.ListN.{length, getD, length-set}
 use lib.Seq.{length-take-le}
 use Rattle.samples.specs.Positions.{at}
 use Rattle.samples.specs.Samples.{listed-at}
-use Rattle.round.proofs.Sloping.{Sloping, sloping-none, sloping-more, sloping-all, same-number}
+use Rattle.round.proofs.PairSlopes.{Sloping, sloping-none, sloping-more, sloping-all, same-number}
 use Rattle.round.proofs.pairs.slopes.Statement.{statement}
 use Rattle.round.proofs.pairs.slopes.Tie as tie
 

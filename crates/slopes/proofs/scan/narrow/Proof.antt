@@ -2,7 +2,7 @@
 use native.Mathlib.Omega.{arith}
 use mathlib.Core.Path.{_∙_}
 use borrow.Author.Needs.{needs}
-use Rattle.slopes.specs.Laws.{near-of}
+use Rattle.slopes.specs.ScratchLaws.{near-of}
 use Rattle.slopes.specs.PassLaws.{counted-most, roomy, kept-alike}
 use Rattle.slopes.specs.PivotSteps.{narrowed-below, narrowed-above, narrowed-none}
 use Rattle.slopes.proofs.scan.narrow.Statement.{statement}

@@ -11,7 +11,7 @@ use lib.Seq.{paste, length-take-le, getD-take}
 use Rattle.picker.specs.Keys.{key-of}
 use Rattle.samples.specs.Positions.{east-of}
 use Rattle.samples.specs.Samples.{listed-at}
-use Rattle.step.specs.Parts.{Pasted, pasted-none, pasted-more, pasted-before}
+use Rattle.step.specs.Pasting.{Pasted, pasted-none, pasted-more, pasted-before}
 use Rattle.step.proofs.lists.easts.Statement.{statement}
 use Rattle.step.proofs.lists.easts.Tie as tie
 

@@ -5,7 +5,7 @@ use native.Mathlib.Omega.{arith}
 use borrow.Author.Needs.{needs}
 use lib.ListN.{drop, length-drop}
 use lib.Seq.{paste}
-use Rattle.step.specs.Parts.{Pasted, pasted-none, pasted-more, copied-item}
+use Rattle.step.specs.Pasting.{Pasted, pasted-none, pasted-more, copied-item}
 use Rattle.step.proofs.moves.copy.Statement.{statement}
 use Rattle.step.proofs.moves.copy.Tie as tie
 

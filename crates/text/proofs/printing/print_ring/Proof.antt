@@ -11,7 +11,7 @@ use Rattle.rules.specs.Refusals.{done}
 use Rattle.rules.specs.Program.{printed-natural, printed-corners, printed}
 use Rattle.text.specs.Placed.{then, put-length, at-front}
 use Rattle.samples.specs.Samples.{streams-length}
-use Rattle.text.specs.Corners.{ring-length}
+use Rattle.text.specs.PrintedCorners.{ring-length}
 use Rattle.text.proofs.printing.print_ring.Statement.{statement}
 use Rattle.text.proofs.printing.print_ring.Tie as tie
 

@@ -11,7 +11,7 @@ use Rattle.rules.specs.Refusals.{done}
 use Rattle.rules.specs.Entries.{counted}
 use Rattle.text.specs.declared.reading.Found.{Found}
 use Rattle.text.specs.TextAnswers.{NextLine}
-use Rattle.text.specs.Lines.{Passed, passed-none, passed-over, passed-bad, passed-more, passed-all}
+use Rattle.text.specs.TextLines.{Passed, passed-none, passed-over, passed-bad, passed-more, passed-all}
 use Rattle.text.proofs.reading.decide.Statement.{statement}
 use Rattle.text.proofs.reading.decide.Tie as tie
 

@@ -8,7 +8,7 @@ use Rattle.rules.specs.Refusals.{done}
 use Rattle.rules.specs.Entries.{counted}
 use Rattle.rules.specs.Program.{samples}
 use Rattle.samples.specs.Tests.{fits-both}
-use Rattle.text.specs.Lines.{outcome-refused, short, fit, fit-count}
+use Rattle.text.specs.TextLines.{outcome-refused, short, fit, fit-count}
 use Rattle.text.proofs.reading.samples.Statement.{statement}
 use Rattle.text.proofs.reading.samples.Tie as tie
 

@@ -10,7 +10,7 @@ use mir.Syntax.{w32}
 use Rattle.whole.specs.Fits.{cast-read}
 use Rattle.text.specs.declared.reading.Found.{Found}
 use Rattle.text.specs.TextAnswers.{NextLine}
-use Rattle.text.specs.Lines.{never-bad}
+use Rattle.text.specs.TextLines.{never-bad}
 use Rattle.text.specs.Writing.{Writing, writing-none, writing-more, room, east-length, north-length, east-after, north-after}
 use Rattle.text.proofs.reading.write.Statement.{statement}
 use Rattle.text.proofs.reading.write.Tie as tie

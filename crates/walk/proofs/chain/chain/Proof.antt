@@ -4,7 +4,7 @@ use mathlib.Core.Path.{_≡_, refl, _∙_}
 use Prim.Native.Nat.{_-_}
 use native.Mathlib.Omega.{arith}
 use lib.ListN.{length}
-use Rattle.walk.specs.Both.{Walking}
+use Rattle.walk.specs.TwoRings.{Walking}
 use Rattle.walk.specs.Stacks.{walking-start, walking-spans, walking-below, walking-next, walking-on, walking-end}
 use Rattle.walk.proofs.chain.chain.Statement.{statement}
 use Rattle.walk.proofs.chain.chain.Tie as tie

@@ -10,7 +10,7 @@ use denote.Ref.{now}
 use Rattle.laws_outline.specs.Under.{Under, on-self}
 use Rattle.samples.specs.HeldStream.{stream-of}
 use Rattle.laws_stack.specs.Stack.{With, Upto, stays, stays-some, stacked-less, one-fewer}
-use Rattle.walk.specs.Both.{listed-at}
+use Rattle.walk.specs.TwoRings.{listed-at}
 use Rattle.walk.proofs.chain.settled.Statement.{statement}
 use Rattle.walk.proofs.chain.settled.Tie as tie
 

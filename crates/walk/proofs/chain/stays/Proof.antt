@@ -12,7 +12,7 @@ use Rattle.rules.specs.Streams.{Stream, side}
 use Rattle.samples.specs.Positions.{Near}
 use Rattle.samples.specs.HeldStream.{stream-of}
 use Rattle.laws_stack.specs.Stack.{stays, stays-one, stays-more}
-use Rattle.walk.specs.Both.{listed-at}
+use Rattle.walk.specs.TwoRings.{listed-at}
 use Rattle.walk.specs.Places.{corner-near}
 use Rattle.walk.proofs.chain.stays.Statement.{statement}
 use Rattle.walk.proofs.chain.stays.Tie as tie

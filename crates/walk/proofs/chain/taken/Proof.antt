@@ -7,7 +7,7 @@ use native.Mathlib.Numerals.{add-one}
 use native.Mathlib.Omega.{arith}
 use denote.Ref.{now}
 use Rattle.samples.specs.Positions.{Near}
-use Rattle.walk.specs.Both.{listed-at, Next}
+use Rattle.walk.specs.TwoRings.{listed-at, Next}
 use Rattle.walk.specs.Places.{corner-near}
 use Rattle.walk.specs.Stacks.{taken-top, taken-hidden}
 use Rattle.walk.proofs.chain.taken.Statement.{statement}

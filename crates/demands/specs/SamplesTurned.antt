@@ -11,13 +11,13 @@ use Rattle.rules.specs.Streams.{Stream, streams, turned}
 use Rattle.rules.specs.Chain.{upper, lower, upper-numbers, lower-numbers}
 use Rattle.laws_outline.specs.Numbers.{lower-mirrored}
 use Rattle.laws_rings.specs.Rings.{upper-of-ring, lower-of-ring}
-use Rattle.laws_rings.specs.Mirror.{upper-turned, lower-turned, upper-numbers-turned, lower-numbers-turned}
+use Rattle.laws_rings.specs.FromBehind.{upper-turned, lower-turned, upper-numbers-turned, lower-numbers-turned}
 use Rattle.chains.specs.declared.ChainsAnswer.the-variants as said
 use Rattle.samples.specs.declared.answers.Counted.the-variants as counts
 use Rattle.demands.specs.Done.{left-ring}
 use Rattle.demands.specs.Chains as chains
 use Rattle.demands.specs.Ringed as rings
-use Rattle.demands.specs.Turned as turns
+use Rattle.demands.specs.RingTurned as turns
 use Rattle.demands.specs.Joined.{Made, ringed-by, turned-by, made-same}
 
 -- the parts fs and ms are es and ns, every sign changed

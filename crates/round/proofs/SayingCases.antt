@@ -15,7 +15,7 @@ use Rattle.rules.specs.Bridge.{ends}
 use Rattle.rules.specs.Round as rules
 use Rattle.laws_ranks.specs.Ranks.{HasRank}
 use Rattle.slopes.specs.Fractions.{fractions, Near, Picked}
-use Rattle.slopes.specs.Laws.{length-fractions}
+use Rattle.slopes.specs.ScratchLaws.{length-fractions}
 use Rattle.round.specs.declared.core.Said.{Said}
 use Rattle.round.specs.declared.core.Said.the-variants.{Found, Kept}
 use Rattle.round.specs.Slopes.{Sloped}

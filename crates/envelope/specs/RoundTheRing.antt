@@ -12,7 +12,7 @@ use borrow.Author.Tests.{lt-leb, le-leb}
 use Rattle.rules.specs.Streams.{Stream, stream, sample, side}
 use Rattle.rules.specs.Chain.{leftmost}
 use Rattle.rules.specs.Use.{inside, covers}
-use Rattle.laws_neighbours.specs.Test.{turns, closes, goes-round, neighbourly}
+use Rattle.laws_neighbours.specs.NeighbourTest.{turns, closes, goes-round, neighbourly}
 
 module _ (xs : List Stream) where
   -- what is left of the ring at place i

@@ -12,7 +12,7 @@ use lib.ListN.{length, getD}
 use borrow.Author.Tests.{ltb-false}
 use Rattle.rules.specs.Streams.{Stream}
 use Rattle.laws_stack.specs.ClosedPlaces.{ring-at}
-use Rattle.walk.specs.Both.{listed-at, Stand}
+use Rattle.walk.specs.TwoRings.{listed-at, Stand}
 
 -- ---- the ring: the upper chain's u places at the front of w, and the lower chain's l places behind them
 

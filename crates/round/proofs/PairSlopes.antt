@@ -17,10 +17,10 @@ use Rattle.rules.specs.Streams.{Stream}
 use Rattle.rules.specs.Round.{Slope, paired, with-slope, slopes}
 use Rattle.slopes.specs.Fractions.{fraction, fractions, Part, Sound}
 use Rattle.slopes.specs.Passes.{Alike}
-use Rattle.slopes.specs.Laws.{one-more, fractions-alike, sound-alike}
+use Rattle.slopes.specs.ScratchLaws.{one-more, fractions-alike, sound-alike}
 use Rattle.laws_ranks.specs.Kept.{byte-most}
 use Rattle.round.specs.Slopes.{PairSlope, Sloped}
-use Rattle.round.proofs.Places.{drop-two}
+use Rattle.round.proofs.TwoAtATime.{drop-two}
 
 -- ---- two words behind q slopes
 

@@ -11,7 +11,7 @@ use Rattle.rules.specs.Streams.{Stream}
 use Rattle.rules.specs.Refusals.{Answer, refused, done}
 use Rattle.laws_stack.specs.Places.{listed, length-listed, map-listed}
 use Rattle.samples.specs.declared.answers.Counted.the-variants as counts
-use Rattle.closing.specs.RingOutcome.{unless-short, Outcome}
+use Rattle.closing.specs.RingPromise.{unless-short, Outcome}
 
 -- a ring of n corners f
 module _ (R : List Stream) (f : ℕ → Stream) (n : ℕ) (e : R ≡ listed f n) (east north : List ℤ) (scratch : List ℕ) where

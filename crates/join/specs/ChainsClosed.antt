@@ -18,8 +18,8 @@ use Rattle.rules.specs.Use.{join}
 use Rattle.laws_stack.specs.Places.{listed, listed-alike}
 use Rattle.laws_stack.specs.DrawnWalk.{All}
 use Rattle.laws_stack.specs.ClosedPlaces.{chains-ring}
-use Rattle.walk.specs.Both.{Corners, both, count, corner-at, listed-at, Stand, Chained}
-use Rattle.closing.specs.Both.{Both, upper-at, lower-at}
+use Rattle.walk.specs.TwoRings.{Corners, both, count, corner-at, listed-at, Stand, Chained}
+use Rattle.closing.specs.TwoChains.{Both, upper-at, lower-at}
 use Rattle.walk.specs.Places.{both-length}
 
 -- ---- a list with ys put behind its first u items

@@ -18,9 +18,9 @@ use Rattle.laws_outline.specs.ListLaws.{both-yes, one-yes}
 use Rattle.laws_outline.specs.TwoKeys.{two-keys-yes}
 use Rattle.laws_outline.specs.SamePosition.{equal-same, no-same}
 use Rattle.laws_outline.specs.Sidedness.{side-of-second, below-at-second}
-use Rattle.laws_neighbours.specs.Test.{turns, closes, goes-round, neighbourly}
-use Rattle.laws_neighbours.specs.Local.{Bends, ends, bends, far-end, last-far, mirrored-turn}
-use Rattle.laws_neighbours.specs.Global.{Atop, Parts}
+use Rattle.laws_neighbours.specs.NeighbourTest.{turns, closes, goes-round, neighbourly}
+use Rattle.laws_neighbours.specs.TurnsMakeChain.{Bends, ends, bends, far-end, last-far, mirrored-turn}
+use Rattle.laws_neighbours.specs.ListsFit.{Atop, Parts}
 
 atop-itself : (p : Stream) → Atop p p
 atop-itself p = record { level = refl; high = ≤ℤ-refl (p .north) }

@@ -15,7 +15,7 @@ use Rattle.bridge.specs.declared.BridgeAnswer.the-variants as bridge-said
 use Rattle.round.specs.Promise as rounding
 use Rattle.round.specs.declared.RoundAnswer.{RoundAnswer}
 use Rattle.round.specs.declared.RoundAnswer.the-variants as round-said
-use Rattle.envelope.specs.RingAnswers.{strongest-as, covered-as}
+use Rattle.envelope.specs.UseAnswers.{strongest-as, covered-as}
 use Rattle.envelope.specs.declared.strongest.StrongestSet.{StrongestSet}
 use Rattle.envelope.specs.declared.strongest.StrongestSet.the-variants as strongest
 use Rattle.envelope.specs.declared.cover.Covered.{Covered}

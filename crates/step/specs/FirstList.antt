@@ -12,14 +12,14 @@ use Rattle.rules.specs.Lists.{those}
 use Rattle.rules.specs.Streams.{Stream, stream, streams, sample, mirrored}
 use Rattle.rules.specs.Chain.{upper}
 use Rattle.rules.specs.Step.{first-list}
-use Rattle.laws_outline.specs.Steps.{Ready, first-list-ready}
-use Rattle.laws_rounds.specs.Steps.{BySteps, first-steps, first-list-map}
+use Rattle.laws_outline.specs.StepsAtCut.{Ready, first-list-ready}
+use Rattle.laws_rounds.specs.StepsAtMiddle.{BySteps, first-steps, first-list-map}
 use Rattle.laws_rounds.specs.WholeList.{numbers, numbers-samples}
 use Rattle.samples.specs.Positions.{at}
 use Rattle.samples.specs.Samples.{streams-length, sample-at, samples-at}
 use Rattle.step.specs.NumberLists.{between, first-numbers}
 use Rattle.step.specs.Ends.{EndOf, nearest, nearest-is}
-use Rattle.step.specs.Named.{Named, named-those, named-cons, named-first, named-samples}
+use Rattle.step.specs.LowestFirst.{Named, named-those, named-cons, named-first, named-samples}
 use Rattle.step.specs.Chaining.{Chainable}
 use Rattle.step.specs.Stepping.{side-samples, number-at}
 

@@ -13,7 +13,7 @@ use Rattle.rules.specs.Streams.{Stream, sample, same}
 use Rattle.rules.specs.Chain.{lowest}
 use Rattle.laws_outline.specs.ListLaws.{those-in, is-some-of}
 use Rattle.laws_outline.specs.SamePosition.{same-equal, equal-same}
-use Rattle.laws_rounds.specs.Items.{first-of, first-of-in}
+use Rattle.laws_rounds.specs.ListedItems.{first-of, first-of-in}
 use Rattle.laws_rounds.specs.Pairs.{here}
 use Rattle.laws_rounds.specs.WholeList.{numbers, numbers-samples, first-is-lowest}
 

@@ -25,8 +25,8 @@ use Rattle.laws_ranks.specs.Ranks.{under, over}
 use Rattle.laws_ranks.specs.Numbers.{whole-under, rank-halves}
 use Rattle.laws_outline.specs.SamePosition.{same-equal, equal-same, no-same, position-decides}
 use Rattle.laws_outline.specs.Bridges.{BridgeOver, is-spans}
-use Rattle.laws_outline.specs.Prefix.{step-chain, one-corner, left-list-shorter, right-list-shorter, first-list-chain}
-use Rattle.laws_outline.specs.Steps.{Middle, Ready, ready-two, left-list-ready, right-list-ready, first-list-ready, cut-bridge-some, cut-bridge-is, steps-chain, chain-by-steps-is, left-list-half, right-list-half}
+use Rattle.laws_outline.specs.StepLists.{step-chain, one-corner, left-list-shorter, right-list-shorter, first-list-chain}
+use Rattle.laws_outline.specs.StepsAtCut.{Middle, Ready, ready-two, left-list-ready, right-list-ready, first-list-ready, cut-bridge-some, cut-bridge-is, steps-chain, chain-by-steps-is, left-list-half, right-list-half}
 
 -- ---- the rank floor(t/2) of t numbers is a middle of them
 

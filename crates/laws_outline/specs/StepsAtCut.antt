@@ -22,7 +22,7 @@ use Rattle.laws_outline.specs.ListLaws.{those-in, those-less, those-fewe
 use Rattle.laws_outline.specs.SamePosition.{same-equal, same-no}
 use Rattle.laws_outline.specs.Chains.{upper-only, left-end-is, right-end-is, left-end-some, right-end-some}
 use Rattle.laws_outline.specs.Bridges.{BridgeOver, bridge-is, bridge-some}
-use Rattle.laws_outline.specs.Prefix.{step-chain, one-corner, left-list-left-end, left-list-right-end, right-list-left-end, right-list-right-end, left-list-alone, right-list-alone, left-list-shorter, right-list-shorter, ends-apart, left-end-before, right-end-after, first-list-left-end, first-list-right-end, first-list-chain, first-list-length}
+use Rattle.laws_outline.specs.StepLists.{step-chain, one-corner, left-list-left-end, left-list-right-end, right-list-left-end, right-list-right-end, left-list-alone, right-list-alone, left-list-shorter, right-list-shorter, ends-apart, left-end-before, right-end-after, first-list-left-end, first-list-right-end, first-list-chain, first-list-length}
 
 -- ---- a middle of some numbers: one of them, with fewer than half below it and no more than the other half above it
 

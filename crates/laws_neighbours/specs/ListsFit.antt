@@ -15,7 +15,7 @@ use Rattle.laws_outline.specs.Under.{Under, Through, on-self, under-at-east}
 use Rattle.laws_outline.specs.Chains.{upper-is, upper-only}
 use Rattle.laws_outline.specs.SameOutline.{lower-is, lower-only, same-outline}
 use Rattle.laws_rings.specs.Rings.{closed-in, upper-in-closed, lower-in-closed}
-use Rattle.laws_neighbours.specs.Local.{Bends, ends, bends, far-end, far-end-given, far-end-map, bending-chain, sags}
+use Rattle.laws_neighbours.specs.TurnsMakeChain.{Bends, ends, bends, far-end, far-end-given, far-end-map, bending-chain, sags}
 
 -- u stands at l, or straight above it
 pub record Atop (u l : Stream) : Type 0 where
