@@ -13,8 +13,8 @@ use Rattle.exports.specs.declared.chained.ChainsC.{ChainsC}
 use Rattle.exports.specs.declared.counts.CountedC.{CountedC}
 use Rattle.exports.specs.declared.hands.HandMade.{HandMade}
 use Rattle.exports.specs.declared.hands.HandStepped.{HandStepped}
-use Rattle.exports.specs.declared.rings.StrongestC.{StrongestC}
-use Rattle.exports.specs.declared.rings.CoverTold.{CoverTold}
+use Rattle.exports.specs.declared.uses.StrongestC.{StrongestC}
+use Rattle.exports.specs.declared.uses.CoverTold.{CoverTold}
 use Rattle.exports.specs.declared.doors.PartTaken.{PartTaken}
 use Rattle.exports.specs.declared.doors.ReadingsTaken.{ReadingsTaken}
 use Rattle.exports.proofs.picks.nuoskelma_pick.Kinds as pick-kinds
@@ -25,20 +25,20 @@ use Rattle.exports.proofs.bridges.nuoskelma_bridge.Kinds as bridge-kind
 use Rattle.exports.proofs.bridges.nuoskelma_bridge.Reads as bridge-reads
 use Rattle.exports.proofs.chained.nuoskelma_chains.Kinds as chains-kinds
 use Rattle.exports.proofs.chained.nuoskelma_chains.Reads as chains-reads
-use Rattle.exports.proofs.joins.nuoskelma_ring.Kinds as ring-kinds
-use Rattle.exports.proofs.joins.nuoskelma_ring.Reads as ring-reads
+use Rattle.exports.proofs.rings.nuoskelma_ring.Kinds as ring-kinds
+use Rattle.exports.proofs.rings.nuoskelma_ring.Reads as ring-reads
 use Rattle.exports.proofs.hands.nuoskelma_hand_for.Kinds as hand-for-kinds
 use Rattle.exports.proofs.hands.nuoskelma_hand_for.Reads as hand-for-reads
 use Rattle.exports.proofs.hands.nuoskelma_hand_step.Kinds as hand-step-kinds
 use Rattle.exports.proofs.hands.nuoskelma_hand_step.Reads as hand-step-reads
-use Rattle.exports.proofs.rings.nuoskelma_strongest.Kinds as strongest-kinds
-use Rattle.exports.proofs.rings.nuoskelma_strongest.Reads as strongest-reads
-use Rattle.exports.proofs.rings.nuoskelma_cover.Kinds as cover-kinds
-use Rattle.exports.proofs.rings.nuoskelma_cover.Reads as cover-reads
-use Rattle.exports.proofs.joins.nuoskelma_join.Kinds as join-kinds
-use Rattle.exports.proofs.joins.nuoskelma_join.Reads as join-reads
-use Rattle.exports.proofs.rings.nuoskelma_turn_about.Kinds as turn-about-kinds
-use Rattle.exports.proofs.rings.nuoskelma_turn_about.Reads as turn-about-reads
+use Rattle.exports.proofs.uses.nuoskelma_strongest.Kinds as strongest-kinds
+use Rattle.exports.proofs.uses.nuoskelma_strongest.Reads as strongest-reads
+use Rattle.exports.proofs.uses.nuoskelma_cover.Kinds as cover-kinds
+use Rattle.exports.proofs.uses.nuoskelma_cover.Reads as cover-reads
+use Rattle.exports.proofs.rings.nuoskelma_join.Kinds as join-kinds
+use Rattle.exports.proofs.rings.nuoskelma_join.Reads as join-reads
+use Rattle.exports.proofs.uses.nuoskelma_turn_about.Kinds as turn-about-kinds
+use Rattle.exports.proofs.uses.nuoskelma_turn_about.Reads as turn-about-reads
 use Rattle.exports.proofs.doors.nuoskelma_part.Kinds as part-kinds
 use Rattle.exports.proofs.doors.nuoskelma_part.Reads as part-reads
 use Rattle.exports.proofs.doors.nuoskelma_readings.Kinds as readings-kinds

@@ -1,5 +1,4 @@
--- The laws of chains: the computed chain is a chain of its samples, a set of samples has one chain only, and two sets have the same chain if each lies
--- under the other. The lower chain is the upper chain of the samples mirrored.
+-- The laws of the upper chain: the computed chain is a chain of its samples, and a set of samples has one chain only.
 -- Assumes nothing.
 use mathlib.Core.Path.{_≡_, refl, sym, ap, ap₂, _∙_, subst}
 use mathlib.Core.Logic.{_⊎_, inl, inr, ⊎-elim}

@@ -13,13 +13,13 @@ use Rattle.rules.specs.Refusals.{Answer, refused, done, scratch-after}
 use Rattle.rules.specs.Entries.{pick-answer}
 use Rattle.picker.specs.declared.Picked.{Picked}
 use Rattle.picker.specs.declared.Picked.the-variants.{Done, Refused}
-use Rattle.picker.specs.Promise.{answer-of, PickPromise}
+use Rattle.picker.specs.Promise.{answer-as, PickPromise}
 
 module _ {xs : List ℤ} {r : ℕ} {given : List ℕ} where
   -- the promise is kept by what says the answer that the tests give
   keeps : {said : Picked} {left : List ℕ} (a : Answer ℤ)
       → pick-answer xs r given ≡ a
-      → answer-of said ≡ a
+      → answer-as said ≡ a
       → left ≡ scratch-after a given
       → PickPromise xs r given said left
   keeps a e h k = record { answer = h ∙ sym e; scratch = k ∙ ap (λ (b : Answer ℤ). scratch-after b given) (sym e) }

@@ -3,4 +3,4 @@ mod Fives
 mod Loads
 mod GoingOn
 mod Answers
-pub mod Unique
+pub mod Outcomes

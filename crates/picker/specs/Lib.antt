@@ -2,4 +2,3 @@ pub mod Keys
 pub mod KeyLaws
 pub mod Picking
 pub mod Promise
-pub mod Unique

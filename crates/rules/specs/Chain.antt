@@ -3,7 +3,7 @@
 -- corner. No sample lies above the chain. Lower chain: the same with every north negated, listed left to right. A corner is reported by the lowest
 -- sample number at its position. No samples: both chains empty."
 -- First what a chain is, said of any set of samples, then a function that computes it. That the computed chain is one, and the only one, are laws:
--- `upper-is` and `upper-only` of `outline` Chains.
+-- `upper-is` and `upper-only` of `laws_outline` Chains.
 -- Assumes nothing.
 use mathlib.Core.Path.{_≡_}
 use mathlib.Core.Bool.{Bool, _||_, _&&_}

@@ -1,5 +1,5 @@
 -- Record. "Big-endian. Byte 0 is the version, 1. Bytes 1 to 4 are the length in bytes of the rest. Then per corner 4 bytes east and 4 bytes north, two's
--- complement, ring order. Length 0 is the empty ring."
+-- complement, ring order. Length 0 is the empty ring." When 16 and 17 are given stands in Entries, `record-answer`.
 -- Assumes nothing.
 use mathlib.Core.Bool.{cond}
 use mathlib.Core.List.{List, [], _∷_}

@@ -1,4 +1,5 @@
--- Using a ring. "A ring comes as two lists, east and north, and is an envelope exactly if it equals the ring of its own positions."
+-- Using a ring: the envelope, the ring hand, the strongest set, the cover test, join and turn about. "A ring comes as two lists, east and north, and is an
+-- envelope exactly if it equals the ring of its own positions."
 -- Assumes nothing.
 use mathlib.Core.Bool.{Bool, false, cond, _&&_}
 use mathlib.Core.List.{List, [], _∷_, _++_, map}

@@ -2,7 +2,7 @@
 -- Assumes nothing.
 use mathlib.Core.Path.{ap, sym, _∙_}
 use borrow.Author.Needs.{needs}
-use Rattle.picker.specs.Promise.{answer-of}
+use Rattle.picker.specs.Promise.{answer-as}
 use Rattle.exports.specs.Picks.{picked-face}
 use Rattle.exports.proofs.picks.nuoskelma_pick.Statement.{statement}
 use Rattle.exports.proofs.picks.nuoskelma_pick.Tie as tie
@@ -10,12 +10,12 @@ use Rattle.exports.proofs.picks.nuoskelma_pick.Tie as tie
 returns : tie.Need-returns
 returns c =
     let said = c .before .before .before .before .before .pick .ensures in
-    (search needs ∙ ap picked-face (ap answer-of (sym (c .before .value .given .1)) ∙ said .answer), said .scratch)
+    (search needs ∙ ap picked-face (ap answer-as (sym (c .before .value .given .1)) ∙ said .answer), said .scratch)
 
 returns-2 : tie.Need-returns-2
 returns-2 c =
     let said = c .before .before .before .before .before .pick .ensures in
-    (ap picked-face (ap answer-of (sym (c .before .number .given .1)) ∙ said .answer), said .scratch)
+    (ap picked-face (ap answer-as (sym (c .before .number .given .1)) ∙ said .answer), said .scratch)
 
 pub nuoskelma-pick-spec : {M : Type 1} → statement M
 nuoskelma-pick-spec =

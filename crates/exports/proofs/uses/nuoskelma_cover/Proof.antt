@@ -9,10 +9,10 @@ use Rattle.rules.specs.Entries.{cover-answer}
 use Rattle.envelope.specs.UseAnswers.{covered-as}
 use Rattle.envelope.proofs.cover.cover.Reads as entry
 use Rattle.exports.specs.Rings.{cover-face}
-use Rattle.exports.proofs.rings.nuoskelma_cover.Statement.{statement}
-use Rattle.exports.proofs.rings.nuoskelma_cover.Tie as tie
-use Rattle.exports.proofs.rings.nuoskelma_cover.Reads as reads
-use Rattle.exports.proofs.rings.nuoskelma_cover.Lts as lts
+use Rattle.exports.proofs.uses.nuoskelma_cover.Statement.{statement}
+use Rattle.exports.proofs.uses.nuoskelma_cover.Tie as tie
+use Rattle.exports.proofs.uses.nuoskelma_cover.Reads as reads
+use Rattle.exports.proofs.uses.nuoskelma_cover.Lts as lts
 
 -- what the entry says of the parts as they were given
 told : (c : lts.After-cover (entry.Asked, entry.Learnt) reads.Pre reads.Post)

@@ -4,8 +4,8 @@ use mathlib.Core.Path.{_∙_}
 use borrow.Author.Needs.{needs}
 use Rattle.rules.specs.Entries.{turn-answer}
 use Rattle.exports.specs.Rings.{told-face}
-use Rattle.exports.proofs.rings.nuoskelma_turn_about.Statement.{statement}
-use Rattle.exports.proofs.rings.nuoskelma_turn_about.Tie as tie
+use Rattle.exports.proofs.uses.nuoskelma_turn_about.Statement.{statement}
+use Rattle.exports.proofs.uses.nuoskelma_turn_about.Tie as tie
 
 returns : tie.Need-returns
 returns c =

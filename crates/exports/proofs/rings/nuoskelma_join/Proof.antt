@@ -1,17 +1,17 @@
--- `exports::joins::nuoskelma_ring` meets its contract: the face of what the ring's promise gives, and the lists are as it leaves them.
+-- `exports::joins::nuoskelma_join` meets its contract: the face of what the join's promise gives, and the lists are as it leaves them.
 -- Assumes nothing.
 use mathlib.Core.Path.{_∙_}
 use borrow.Author.Needs.{needs}
 use Rattle.exports.specs.Rings.{outcome-face}
-use Rattle.exports.proofs.joins.nuoskelma_ring.Statement.{statement}
-use Rattle.exports.proofs.joins.nuoskelma_ring.Tie as tie
+use Rattle.exports.proofs.rings.nuoskelma_join.Statement.{statement}
+use Rattle.exports.proofs.rings.nuoskelma_join.Tie as tie
 
 returns : tie.Need-returns
 returns c =
-    let said = c .before .before .before .before .before .ring .ensures in
+    let said = c .before .before .before .before .before .join .ensures in
     (c .counted .ensures ∙ outcome-face said, (said .east-after, (said .north-after, said .scratch-is)))
 
-pub nuoskelma-ring-spec : {M : Type 1} → statement M
-nuoskelma-ring-spec =
+pub nuoskelma-join-spec : {M : Type 1} → statement M
+nuoskelma-join-spec =
     tie.close
     (tie.spec (λ c κs. search needs) (λ c κs. search needs) (λ c. search needs) (λ c. search needs) (λ c. search needs) returns)

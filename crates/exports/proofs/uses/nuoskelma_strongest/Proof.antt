@@ -9,10 +9,10 @@ use Rattle.rules.specs.Entries.{strongest-answer}
 use Rattle.envelope.specs.UseAnswers.{strongest-as}
 use Rattle.envelope.proofs.strongest.strongest.Reads as entry
 use Rattle.exports.specs.Rings.{strongest-face}
-use Rattle.exports.proofs.rings.nuoskelma_strongest.Statement.{statement}
-use Rattle.exports.proofs.rings.nuoskelma_strongest.Tie as tie
-use Rattle.exports.proofs.rings.nuoskelma_strongest.Reads as reads
-use Rattle.exports.proofs.rings.nuoskelma_strongest.Lts as lts
+use Rattle.exports.proofs.uses.nuoskelma_strongest.Statement.{statement}
+use Rattle.exports.proofs.uses.nuoskelma_strongest.Tie as tie
+use Rattle.exports.proofs.uses.nuoskelma_strongest.Reads as reads
+use Rattle.exports.proofs.uses.nuoskelma_strongest.Lts as lts
 
 -- what the entry says of the parts as they were given
 told : (c : lts.After-strongest (entry.Asked, entry.Learnt) reads.Pre reads.Post)
