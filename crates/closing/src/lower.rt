@@ -8,8 +8,8 @@ ghost use Rattle.rules.specs.Streams.{same};
 ghost use Rattle.laws_stack.specs.ClosedPlaces.{Right, Closes};
 ghost use Rattle.walk.specs.TwoRings.{Corners, count, listed-at};
 ghost use Rattle.closing.specs.TwoChains.{upper-at, lower-at, TwoOf, Both};
+use samples::streams::same;
 use walk::corners::listed;
-use walk::corners::same;
 
 // The places of the lower chain that are not left out: lo to before hi.
 pub struct LowerPart {

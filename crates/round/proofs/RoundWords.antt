@@ -6,13 +6,13 @@ use Prim.Native.Nat.{ℕ, _^_, _<_}
 use native.Mathlib.Nat.{lt-of-le-of-lt}
 use borrow.Author.Needs.{sfits-of}
 use lib.Dec.{T, ltb, ltb→lt}
-use lib.IntN.{ℤ, pos, negsuc, natAbs}
+use lib.IntN.{ℤ, pos, negsuc, natAbs, _-ℤ_}
 use lib.Signed.{mag, nonNeg, _≤ℤ_}
 use mir.Syntax.{w32, w64}
 use mir.Val.{Fits, toZ, ofZ}
 use mir.Facts.{toZ-ofZ}
-use Rattle.whole.specs.Solver.{Ex, var, num, _⊗_, eval}
-use Rattle.whole.specs.Fits.{Within, Leaves, Bounded, []ʷ, _∷ʷ_, _∷ᶜ_, read, read-within, value-within, bound, safe, word, word-is, word-within}
+use Rattle.whole.specs.Solver.{Ex, var, num, _⊖_, _⊗_, eval}
+use Rattle.whole.specs.Fits.{Within, Held, Leaves, Bounded, []ʷ, _∷ʷ_, _∷ᶜ_, read, read-within, value-within, bound, safe, word, word-is, word-within}
 use Rattle.rules.specs.Streams.{Stream}
 use Rattle.rules.specs.Round.{Slope}
 use Rattle.slopes.specs.Fractions as fractions
@@ -45,17 +45,30 @@ scaled-near h =
     }
 
 -- two positions: the east and the north of the first, and those of the second
-pub two-leaves : {p q : Stream} → Near p → Near q
-    → Bounded (p .east ∷ p .north ∷ q .east ∷ q .north ∷ []) (1000000 ∷ 1000000 ∷ 1000000 ∷ 1000000 ∷ [])
+abbrev pub parts : Stream → Stream → List ℤ
+parts p q = p .east ∷ p .north ∷ q .east ∷ q .north ∷ []
+
+pub two-leaves : {p q : Stream} → Near p → Near q → Bounded (parts p q) (1000000 ∷ 1000000 ∷ 1000000 ∷ 1000000 ∷ [])
 two-leaves h k = h .east-near ∷ʷ h .north-near ∷ʷ k .east-near ∷ʷ k .north-near ∷ʷ []ʷ
 
--- and K's run and rise
-pub excess-leaves : {p q : Stream} {K : Slope} → Near p → Near q → fractions.Near K
-    → Leaves (p .east ∷ p .north ∷ q .east ∷ q .north ∷ read w32 (K .run) ∷ read w32 (K .rise) ∷ [])
-    (p .east ∷ p .north ∷ q .east ∷ q .north ∷ K .run ∷ K .rise ∷ [])
-    (1000000 ∷ 1000000 ∷ 1000000 ∷ 1000000 ∷ 2000000 ∷ 2000000 ∷ [])
-excess-leaves h j k =
-    h .east-near ∷ʷ h .north-near ∷ʷ j .east-near ∷ʷ j .north-near ∷ʷ read-within w32 (k .run-near) tt ∷ᶜ read-within w32 (k .rise-near) tt ∷ᶜ []ʷ
+-- how far the second stands east of the first, and how far north
+abbrev pub way : Ex
+way = var 2 ⊖ var 0
+
+abbrev pub climb : Ex
+climb = var 3 ⊖ var 1
+
+-- what a word of 32 bits holds of an expression is its value, within its bound
+word-held : {σ ρ : List ℤ} {βs : List ℕ} → Leaves σ ρ βs → (e : Ex) → T (safe w32 βs e) → Held (word w32 σ e) (eval ρ e) (bound βs e)
+word-held l e t = record { same = word-is w32 l e t; near = value-within l e }
+
+-- the climb, K's run, K's rise and the way, each from a word of 32 bits
+pub excess-leaves : {p q : Stream} {K : Slope} → Near p × (Near q × fractions.Near K)
+    → Leaves (word w32 (parts p q) climb ∷ read w32 (K .run) ∷ read w32 (K .rise) ∷ word w32 (parts p q) way ∷ [])
+    ((q .north -ℤ p .north) ∷ K .run ∷ K .rise ∷ (q .east -ℤ p .east) ∷ [])
+    (2000000 ∷ 2000000 ∷ 2000000 ∷ 2000000 ∷ [])
+excess-leaves (h, (j, k)) =
+    word-held (two-leaves h j) climb tt ∷ᶜ read-within w32 (k .run-near) tt ∷ᶜ read-within w32 (k .rise-near) tt ∷ᶜ word-held (two-leaves h j) way tt ∷ᶜ []ʷ
 
 -- ---- a number that is not below 0, cast to an unsigned word
 
@@ -68,11 +81,11 @@ non-negative : {z : ℤ} → pos 0 ≤ℤ z → T (nonNeg z)
 non-negative {z = pos n} h = tt
 non-negative {z = negsuc n} h = absurd (h .le)
 
-module _ {σ ρ : List ℤ} {βs : List ℕ} (l : Leaves σ ρ βs) (e : Ex) (t : T (safe w64 βs e)) where
-  pub cast-unsigned : T (ltb (bound βs e) (2 ^ 32)) → pos 0 ≤ℤ eval ρ e → T (nonNeg (word w64 σ e)) × Fits w32 (natAbs (word w64 σ e))
+module _ {σ ρ : List ℤ} {βs : List ℕ} (l : Leaves σ ρ βs) (e : Ex) (t : T (safe w32 βs e)) where
+  pub cast-unsigned : T (ltb (bound βs e) (2 ^ 32)) → pos 0 ≤ℤ eval ρ e → T (nonNeg (word w32 σ e)) × Fits w32 (natAbs (word w32 σ e))
   cast-unsigned small h =
-      subst⁻¹ (λ (z : ℤ). T (nonNeg z) × Fits w32 (natAbs z)) (word-is w64 l e t)
+      subst⁻¹ (λ (z : ℤ). T (nonNeg z) × Fits w32 (natAbs z)) (word-is w32 l e t)
       (non-negative h, record { fits = lt-of-le-of-lt (value-within l e .within) (ltb→lt (bound βs e) (2 ^ 32) small) })
 
-  pub unsigned-is : natAbs (word w64 σ e) ≡ natAbs (eval ρ e)
-  unsigned-is = ap natAbs (word-is w64 l e t)
+  pub unsigned-is : natAbs (word w32 σ e) ≡ natAbs (eval ρ e)
+  unsigned-is = ap natAbs (word-is w32 l e t)

@@ -2,7 +2,7 @@
 use super::keep;
 use super::pairs;
 use super::tops;
-use samples::position::east;
+use samples::streams::east;
 use slopes::Slope;
 use slopes::pick_slope;
 ghost use mathlib.Core.Bool.{cond};

@@ -1,13 +1,14 @@
 // What the pairs of a list keep, once it is known where the tops lie.
-use samples::position::Position;
-use samples::position::position_of;
+use samples::streams::Stream;
+use samples::streams::position_of;
 use slopes::Slope;
 ghost use mathlib.Core.Path.{_≡_};
 ghost use Prim.Native.Nat.{_<_};
 ghost use Rattle.rules.specs.Round.{pair, keeps};
 ghost use Rattle.slopes.specs.Fractions.{as-slope};
 ghost use Rattle.slopes.specs.Fractions as fractions;
-ghost use Rattle.samples.specs.Positions.{Near, at, place};
+ghost use Rattle.samples.specs.Positions.{Near, at};
+ghost use Rattle.samples.specs.HeldStream.{stream-of};
 ghost use Rattle.round.specs.Keeping.{excess, towards, chosen, PairAsks, KeepAsks, KeptFront};
 
 // Which of a pair are kept.
@@ -17,11 +18,11 @@ pub struct Keeps {
 }
 
 // How much steeper than K the way from p to q is, times K's run and the way's. The way may go east or west.
-fn excess(p: Position, q: Position, k: Slope) -> i64
-    requires { ⌜ Near (place p) × (Near (place q) × fractions.Near (as-slope k)) ⌝ }
-    ensures { λ r. ⌜ r ≡ excess (as-slope k) (place p) (place q) ⌝ }
+fn excess(p: Stream, q: Stream, k: Slope) -> i64
+    requires { ⌜ Near (stream-of p) × (Near (stream-of q) × fractions.Near (as-slope k)) ⌝ }
+    ensures { λ r. ⌜ r ≡ excess (as-slope k) (stream-of p) (stream-of q) ⌝ }
 {
-    (q.north - p.north) * (k.run as i64) - (k.rise as i64) * (q.east - p.east)
+    ((q.north - p.north) as i64) * (k.run as i64) - (k.rise as i64) * ((q.east - p.east) as i64)
 }
 
 // What a pair keeps where the tops lie west, all at most a, or else all above a.

@@ -1,16 +1,17 @@
 // The slopes of the pairs of a list, written behind it.
-use samples::position::Position;
-use samples::position::position_of;
+use samples::streams::Stream;
+use samples::streams::position_of;
 use slopes::Fraction;
 ghost use Prim.Native.Nat.{_<_};
 ghost use lib.ListN.{length};
-ghost use Rattle.samples.specs.Positions.{Sampled, Near, at, place};
+ghost use Rattle.samples.specs.Positions.{Sampled, Near, at};
+ghost use Rattle.samples.specs.HeldStream.{stream-of};
 ghost use Rattle.round.specs.Slopes.{PairSlope, SlopesAsk, Sloped};
 
 // The slope of two positions, ordered by east. A run of 0 stands for no slope.
-fn slope_between(p: Position, q: Position) -> Fraction
-    requires { ⌜ Near (place p) × Near (place q) ⌝ }
-    ensures { λ r. ⌜ PairSlope (place p) (place q) (r .rise) (r .run) ⌝ }
+fn slope_between(p: Stream, q: Stream) -> Fraction
+    requires { ⌜ Near (stream-of p) × Near (stream-of q) ⌝ }
+    ensures { λ r. ⌜ PairSlope (stream-of p) (stream-of q) (r .rise) (r .run) ⌝ }
 {
     let run = q.east - p.east;
     let rise = q.north - p.north;

@@ -1,7 +1,7 @@
 // The tops of a list: the samples with greatest north minus K times east. The one furthest west and the one furthest east are found by keys, scaled heights
 // beside which the east counts only where heights are equal.
-use samples::position::east;
-use samples::position::position_of;
+use samples::streams::east;
+use samples::streams::position_of;
 use slopes::Slope;
 ghost use mathlib.Core.Path.{_≡_};
 ghost use Prim.Native.Nat.{_<_};
@@ -39,10 +39,11 @@ fn keys_of(e: &[i32], n: &[i32], lower: bool, x: u32, rise: i64, run: i64) -> Ke
     ensures { λ r. ⌜ KeysAre (slope-by rise run) (at (now (e .entry)) (now (n .entry)) lower x) r ⌝ }
 {
     let p = position_of(e, n, x, lower);
-    let h = run * p.north - rise * p.east;
+    let east = p.east as i64;
+    let h = run * (p.north as i64) - rise * east;
     Keys {
-        west: h - p.east,
-        east: h + p.east,
+        west: h - east,
+        east: h + east,
     }
 }
 

@@ -10,16 +10,19 @@ use lib.ListN.{length, getD}
 use Rattle.whole.specs.Fits.{Within}
 use Rattle.rules.specs.Lists.{some-of}
 use Rattle.rules.specs.Streams.{Stream, stream, limit}
-use Rattle.samples.specs.declared.position.Position.{Position}
 
 -- the north that a side counts
 abbrev pub faced : Bool → ℤ → ℤ
 faced true z = negℤ z
 faced false z = z
 
+-- a stream as it is, for the upper side, or mirrored, for the lower
+abbrev pub facing : Bool → Stream → Stream
+facing lower s = stream (s .east) (faced lower (s .north))
+
 -- the position of sample x on the upper side, or, for lower, on the lower side
 abbrev pub at : List ℤ → List ℤ → Bool → ℕ → Stream
-at es ns lower x = stream (getD es x (pos 0)) (faced lower (getD ns x (pos 0)))
+at es ns lower x = facing lower (stream (getD es x (pos 0)) (getD ns x (pos 0)))
 
 -- its east
 abbrev pub east-of : List ℤ → ℕ → ℤ
@@ -28,10 +31,6 @@ east-of es x = getD es x (pos 0)
 -- some east is at most a, and some is above a
 unfoldable pub easts-span : ℤ → List ℤ → Bool
 easts-span a es = some-of (λ e. leZ e a) es && some-of (λ e. ltZ a e) es
-
--- a position of the code
-abbrev pub place : Position → Stream
-place p = stream (p .east) (p .north)
 
 -- both parts lie within the limit
 pub record Near (s : Stream) : Type 0 where

@@ -18,7 +18,7 @@ use Rattle.rules.specs.Streams.{Stream, stream, streams, sample, limit, within,
 use Rattle.rules.specs.Bridge.{spans}
 use Rattle.rules.specs.Entries.{easts, norths}
 use Rattle.laws_outline.specs.ListLaws.{both-no, both-yes, at-place-in, none-of-is}
-use Rattle.samples.specs.Positions.{faced, at, east-of, easts-span, Near, Sampled, Listed}
+use Rattle.samples.specs.Positions.{facing, at, east-of, easts-span, Near, Sampled, Listed}
 use Rattle.samples.specs.Scans.{some-by-place}
 
 -- ---- the streams of two lists of equal length
@@ -115,13 +115,14 @@ sampled es ns h e = record { even = h; east-near = λ i. all-near i .east-near; 
     all-near : (i : ℕ) → Near (at es ns false i)
     all-near i = subst Near (sample-at es ns h i) (sample-near (streams es ns) e i)
 
-faced-near : (lower : Bool) {z : ℤ} → Within z limit → Within (faced lower z) limit
-faced-near false h = h
-faced-near true h = value-within (h ∷ʷ []ʷ) (⊝ var 0)
+-- what is within the limit is so on either side
+pub facing-near : (lower : Bool) {s : Stream} → Near s → Near (facing lower s)
+facing-near false h = h
+facing-near true h = record { east-near = h .east-near; north-near = value-within (h .north-near ∷ʷ []ʷ) (⊝ var 0) }
 
--- every position is within the limit, on either side
+-- and so is every position
 pub near-at : {es ns : List ℤ} → Sampled es ns → (lower : Bool) (i : ℕ) → Near (at es ns lower i)
-near-at s lower i = record { east-near = s .east-near i; north-near = faced-near lower (s .north-near i) }
+near-at s lower i = facing-near lower (record { east-near = s .east-near i; north-near = s .north-near i })
 
 -- and so is a stream that was read at a place
 pub read-near : {es ns : List ℤ} → Sampled es ns → (i : ℕ) {s : Stream} → s ≡ sample (streams es ns) i → Near s

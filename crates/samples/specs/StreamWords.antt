@@ -1,9 +1,18 @@
 -- What the code computes with: each part of a near stream is read from a word of 32 bits as it is, and is within the limit.
 -- Assumes nothing.
+use mathlib.Core.Path.{_≡_, refl, sym, ap, _∙_}
+use mathlib.Core.Bool.{Bool, true, false}
 use mathlib.Core.List.{[], _∷_}
+use Prim.Native.Nat.{_^_, _<_}
+use lib.Dec.{eqb}
 use lib.IntN.{ℤ}
+use lib.Signed.{mag}
+use borrow.Author.Needs.{sfits-of}
+use borrow.Author.Tests.{eqb-true, eqb-false}
 use mir.Syntax.{w32}
-use mir.Val.{SFits}
+use mir.Val.{SFits, toZ, ofZ}
+use mir.Facts.{toZ-ofZ}
+use Rattle.whole.specs.Laws.{eqZ, eq-test, ne-test}
 use Rattle.whole.specs.Fits as fits
 use Rattle.whole.specs.Fits.{Within, Held, Leaves, []ʷ, _∷ᶜ_}
 use Rattle.rules.specs.Streams.{Stream, limit}
@@ -17,6 +26,14 @@ near-fits h = fits.within-fits w32 h tt
 
 pub held : {z : ℤ} → Within z limit → Held (read z) z limit
 held h = fits.read-within w32 h tt
+
+-- the words of two parts are equal exactly if the parts are
+pub words-equal : (y z : ℤ) → mag y < 2 ^ 31 → mag z < 2 ^ 31 → eqb (ofZ w32 y) (ofZ w32 z) ≡ eqZ y z
+words-equal y z h k = go (eqb (ofZ w32 y) (ofZ w32 z)) refl
+  where
+    go : (b : Bool) → eqb (ofZ w32 y) (ofZ w32 z) ≡ b → b ≡ eqZ y z
+    go true e = sym (eq-test {a = y} {b = z} (sym (toZ-ofZ (sfits-of h)) ∙ ap (toZ w32) (eqb-true (ofZ w32 y) (ofZ w32 z) e) ∙ toZ-ofZ (sfits-of k)))
+    go false e = sym (ne-test {a = y} {b = z} (λ q. eqb-false (ofZ w32 y) (ofZ w32 z) e (ap (ofZ w32) q)))
 
 -- the parts of two streams, and of three, as the leaves of an expression
 pub two-near : {p q : Stream} → Near p × Near q →

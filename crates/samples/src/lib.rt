@@ -1,7 +1,6 @@
 // What the entries share: a stream by value, the samples as they lie in two lent lists of parts, the tests that entries make, and the words of scratch and
 // output.
 pub mod answers;
-pub mod position;
 pub mod streams;
 pub mod tests;
 pub mod words;

@@ -1,16 +1,19 @@
-// What the uses of a ring share: a stream by value, the test of its parts, sidedness, how strong it sets on a course.
+// A stream by value: read from two lent lists, as it stands or as a side sees it; the test of its parts, position, sidedness, how strong it sets on a course.
 
+ghost use mathlib.Core.Bool.{not};
 ghost use mathlib.Core.Path.{_≡_};
 ghost use Prim.Native.Nat.{_<_};
 ghost use lib.IntN.{pos};
 ghost use lib.Signed.{ltZ};
 ghost use lib.ListN.{length};
-ghost use Rattle.rules.specs.Streams.{streams, sample, beyond, side};
+ghost use Rattle.rules.specs.Streams.{streams, sample, within, beyond, same, side};
 ghost use Rattle.rules.specs.Chain.{leftmost};
 ghost use Rattle.rules.specs.Use.{set-on};
-ghost use Rattle.samples.specs.Positions.{Near};
+ghost use Rattle.samples.specs.Positions.{facing, at, east-of, Near, Sampled};
 ghost use Rattle.samples.specs.HeldStream.{stream-of};
-use super::tests::part_beyond;
+
+// each part lies from -LIMIT to LIMIT
+const LIMIT: i32 = 1000000;
 
 // A stream: an east part and a north part.
 pub struct Stream {
@@ -29,6 +32,46 @@ pub fn at(east: &[i32], north: &[i32], i: usize) -> Stream
     }
 }
 
+// The stream as it is, or, for the lower side, mirrored.
+pub fn faced(lower: bool, s: Stream) -> Stream
+    requires { ⌜ Near (stream-of s) ⌝ }
+    ensures { λ r. ⌜ stream-of r ≡ facing lower (stream-of s) ⌝ }
+{
+    if lower {
+        return Stream {
+            east: s.east,
+            north: -s.north,
+        };
+    }
+    s
+}
+
+// The position of sample x as a side sees it.
+pub fn position_of(e: &[i32], n: &[i32], x: u32, lower: bool) -> Stream
+    requires { ⌜ Sampled (now e) (now n) × (x < length (now e)) ⌝ }
+    ensures { λ r. ⌜ stream-of r ≡ at (now (e .entry)) (now (n .entry)) lower x ⌝ }
+{
+    faced(lower, at(e, n, x as usize))
+}
+
+// The east of sample x, the same for either side.
+pub fn east(e: &[i32], x: u32) -> i64
+    requires { ⌜ x < length (now e) ⌝ }
+    ensures { λ r. ⌜ r ≡ east-of (now (e .entry)) x ⌝ }
+{
+    e[x as usize] as i64
+}
+
+// A part beyond the limit.
+pub fn part_beyond(x: i32) -> bool
+    ensures { λ r. ⌜ r ≡ not (within x) ⌝ }
+{
+    if x < -LIMIT {
+        return true;
+    }
+    LIMIT < x
+}
+
 // A stream with a part beyond the limit.
 pub fn beyond(s: Stream) -> bool
     ensures { λ r. ⌜ r ≡ beyond (stream-of s) ⌝ }
@@ -37,6 +80,16 @@ pub fn beyond(s: Stream) -> bool
         return true;
     }
     part_beyond(s.north)
+}
+
+// p and q stand at one position.
+pub fn same(p: Stream, q: Stream) -> bool
+    ensures { λ r. ⌜ r ≡ same (stream-of p) (stream-of q) ⌝ }
+{
+    if p.east == q.east {
+        return p.north == q.north;
+    }
+    false
 }
 
 // The side of r seen on the way from p to q: above zero on the left, below zero on the right.

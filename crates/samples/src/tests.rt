@@ -1,15 +1,16 @@
 // The tests of samples.
-ghost use mathlib.Core.Bool.{not, _&&_, _||_};
+ghost use mathlib.Core.Bool.{_&&_, _||_};
 ghost use mathlib.Core.List.{map};
 ghost use mathlib.Core.Path.{_≡_};
 ghost use lib.Dec.{leb, ltb};
 ghost use lib.ListN.{length};
 ghost use Rattle.rules.specs.Lists.{first-place};
-ghost use Rattle.rules.specs.Streams.{within, beyond, streams};
+ghost use Rattle.rules.specs.Streams.{beyond, streams};
 ghost use Rattle.rules.specs.Refusals.{ring-tests};
 ghost use Rattle.samples.specs.Positions.{Listed, east-of, easts-span};
 ghost use Rattle.samples.specs.Tests.{tested-of, sample-tests};
-use super::position::east;
+use super::streams::east;
+use super::streams::part_beyond;
 
 // What comes of an entry's tests: all are passed, or the first that holds refuses with its number and place.
 pub enum Tested {
@@ -19,19 +20,6 @@ pub enum Tested {
 
 // at most so many samples, or corners
 pub const MOST: usize = 65536;
-
-// each part lies from -LIMIT to LIMIT
-const LIMIT: i32 = 1000000;
-
-// A part beyond the limit.
-pub fn part_beyond(x: i32) -> bool
-    ensures { λ r. ⌜ r ≡ not (within x) ⌝ }
-{
-    if x < -LIMIT {
-        return true;
-    }
-    LIMIT < x
-}
 
 // The first place with a part beyond the limit, or the number of samples where there is none.
 pub fn first_beyond(e: &[i32], n: &[i32]) -> usize

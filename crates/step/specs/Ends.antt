@@ -1,25 +1,25 @@
 -- The ends of the samples by number: the best by nearness, the earliest of those at its position.
 -- Assumes nothing.
 use mathlib.Core.Path.{_≡_, refl, sym, ap, ap₂, _∙_, subst}
-use mathlib.Core.Bool.{Bool, true, false, cond, not, _&&_, _||_}
+use mathlib.Core.Bool.{Bool, true, false, cond, _&&_, _||_, and-comm}
 use mathlib.Core.Option.{some}
 use mathlib.Core.List.{List, [], _∷_, _++_, map, Memᴰ·map, Memᴰ·of-map}
 use Prim.Native.Nat.{ℕ, _+_, _≤_, _<_}
 use native.Mathlib.Numerals.{add-one}
 use native.Mathlib.Omega.{arith}
 use lib.IntN.{ℤ}
-use lib.Signed.{_≤ℤ_, _<ℤ_, ltZ, clashℤ}
-use Rattle.whole.specs.Laws.{≤ℤ-antisym, ≤ℤ-of-≡, <ℤ→≤ℤ, nlt-test, test-lt, test-nlt, eq-test, ne-test}
+use lib.Signed.{_≤ℤ_, leZ, ltZ}
 use lib.ListN.{length, getD, take, drop}
 use lib.Seq.{take-suc, take-all, drop-append-le, length-take-le}
 use Rattle.rules.specs.Lists.{best-from}
-use Rattle.rules.specs.Streams.{Stream, eqZ}
+use Rattle.rules.specs.Streams.{Stream, stream}
 use Rattle.rules.specs.Chain.{Samples, Of, LeftEnd, RightEnd, leftmost, rightmost}
 use Rattle.laws_outline.specs.ListLaws.{Ranks, Best, best-from-best}
 use Rattle.laws_outline.specs.TwoKeys.{two-keys-rank, two-keys-no}
 use Rattle.laws_rounds.specs.ListedItems.{first-of, best-first}
 use Rattle.laws_rounds.specs.Pairs.{here}
 use Rattle.laws_rounds.specs.WholeList.{numbers, numbers-length, numbers-at}
+use Rattle.samples.specs.Positions.{Sampled}
 
 -- nearer the right end, or else the left end
 abbrev pub nearer : Bool → Stream → Stream → Bool
@@ -31,9 +31,9 @@ abbrev pub End : Bool → Samples → Stream → Type 0
 End true S p = RightEnd S p
 End false S p = LeftEnd S p
 
--- what a scan for an end asks: samples in two lists of equal length, one at least
+-- what a scan for an end asks: samples that passed their tests, one at least
 pub record EndAsks (es ns : List ℤ) : Type 0 where
-  pub even : length es ≡ length ns
+  pub sampled : Sampled es ns
   pub some-sample : 1 ≤ length es
   pub few : length es ≤ 65536
 
@@ -97,41 +97,11 @@ module _ {at : ℕ → Stream} {right : Bool} {n : ℕ} where
   pub scanned-all : {i x : ℕ} → n ≤ i → Scanned at right n i x → x ≡ nearest at right (drop 1 (numbers n))
   scanned-all {i} h s = s .is ∙ ap (λ (l : List ℕ). nearest at right (drop 1 l)) (take-all i (numbers n) (omega (arith, numbers-length n)))
 
--- ---- nearness by comparisons
-
-module _ (right : Bool) (p q : Stream) where
-  pub nearer-west : ltZ (p .east) (q .east) ≡ true → not right ≡ nearer right p q
-  unfolding leftmost rightmost
-  nearer-west e = go right
-    where
-      h : p .east <ℤ q .east
-      h = test-lt (p .east) (q .east) e
-
-      go : (right : Bool) → not right ≡ nearer right p q
-      go true = sym (ap₂ (λ (s t : Bool). s || t && ltZ (q .north) (p .north)) (nlt-test (<ℤ→≤ℤ h)) (ne-test (λ g. clashℤ h (≤ℤ-of-≡ (sym g)))))
-      go false = sym (ap (λ (s : Bool). s || eqZ (p .east) (q .east) && ltZ (q .north) (p .north)) e)
-
-  pub nearer-east : ltZ (q .east) (p .east) ≡ true → right ≡ nearer right p q
-  unfolding leftmost rightmost
-  nearer-east e = go right
-    where
-      h : q .east <ℤ p .east
-      h = test-lt (q .east) (p .east) e
-
-      go : (right : Bool) → right ≡ nearer right p q
-      go true = sym (ap (λ (s : Bool). s || eqZ (p .east) (q .east) && ltZ (q .north) (p .north)) e)
-      go false = sym (ap₂ (λ (s t : Bool). s || t && ltZ (q .north) (p .north)) (nlt-test (<ℤ→≤ℤ h)) (ne-test (λ g. clashℤ h (≤ℤ-of-≡ g))))
-
-  pub nearer-level : ltZ (p .east) (q .east) ≡ false → ltZ (q .east) (p .east) ≡ false → ltZ (q .north) (p .north) ≡ nearer right p q
-  unfolding leftmost rightmost
-  nearer-level e f = go right
-    where
-      level : p .east ≡ q .east
-      level = ≤ℤ-antisym (test-nlt (q .east) (p .east) f) (test-nlt (p .east) (q .east) e)
-
-      go : (right : Bool) → ltZ (q .north) (p .north) ≡ nearer right p q
-      go true = sym (ap₂ (λ (s t : Bool). s || t && ltZ (q .north) (p .north)) f (eq-test level))
-      go false = sym (ap₂ (λ (s t : Bool). s || t && ltZ (q .north) (p .north)) e (eq-test level))
+-- with the easts exchanged, what is nearer the right end is nearer the left end
+pub rightmost-exchanged : (p q : Stream) → leftmost (stream (q .east) (p .north)) (stream (p .east) (q .north)) ≡ rightmost p q
+unfolding leftmost rightmost
+rightmost-exchanged p q =
+    ap (λ (level : Bool). ltZ (q .east) (p .east) || level && ltZ (q .north) (p .north)) (and-comm (leZ (q .east) (p .east)) (leZ (p .east) (q .east)))
 
 -- ---- the nearest is the end
 

@@ -1,25 +1,34 @@
 // The ends of the samples, by number, and whether two samples stand at one position.
-use samples::position::Position;
-use samples::position::position_of;
+use samples::streams::Stream;
+use samples::streams::leftmost;
+use samples::streams::position_of;
+use samples::streams::same;
 ghost use mathlib.Core.Path.{_≡_};
 ghost use Prim.Native.Nat.{_<_};
 ghost use lib.ListN.{length, drop};
 ghost use Rattle.rules.specs.Streams.{same};
 ghost use Rattle.laws_rounds.specs.WholeList.{numbers};
-ghost use Rattle.samples.specs.Positions.{at, place};
+ghost use Rattle.samples.specs.Positions.{at, Sampled};
+ghost use Rattle.samples.specs.HeldStream.{stream-of};
 ghost use Rattle.step.specs.Ends.{nearer, nearest, EndAsks};
 
-// p is nearer the right end than q, or else nearer the left end.
-fn nearer(p: Position, q: Position, right: bool) -> bool
-    ensures { λ r. ⌜ r ≡ nearer right (place p) (place q) ⌝ }
+// p is nearer the right end than q, or else nearer the left end: with the easts exchanged, what is nearer the right end is nearer the left end.
+fn nearer(p: Stream, q: Stream, right: bool) -> bool
+    ensures { λ r. ⌜ r ≡ nearer right (stream-of p) (stream-of q) ⌝ }
 {
-    if p.east < q.east {
-        return !right;
+    if right {
+        return leftmost(
+            Stream {
+                east: q.east,
+                north: p.north,
+            },
+            Stream {
+                east: p.east,
+                north: q.north,
+            },
+        );
     }
-    if q.east < p.east {
-        return right;
-    }
-    q.north < p.north
+    leftmost(p, q)
 }
 
 // The right end of the samples, or else their left end, by the lowest number at its position.
@@ -45,13 +54,8 @@ pub fn end_of(e: &[i32], n: &[i32], lower: bool, right: bool) -> u32
 
 // Two samples stand at one position.
 pub fn together(e: &[i32], n: &[i32], lower: bool, x: u32, y: u32) -> bool
-    requires { ⌜ (length (now e) ≡ length (now n)) × ((x < length (now e)) × (y < length (now e))) ⌝ }
+    requires { ⌜ Sampled (now e) (now n) × ((x < length (now e)) × (y < length (now e))) ⌝ }
     ensures { λ r. ⌜ r ≡ same (at (now (e .entry)) (now (n .entry)) lower x) (at (now (e .entry)) (now (n .entry)) lower y) ⌝ }
 {
-    let p = position_of(e, n, x, lower);
-    let q = position_of(e, n, y, lower);
-    if p.east != q.east {
-        return false;
-    }
-    p.north == q.north
+    same(position_of(e, n, x, lower), position_of(e, n, y, lower))
 }

@@ -8,7 +8,7 @@ pub mod moves;
 use bridge::Ends;
 use bridge::bridge_of;
 use ends::together;
-use samples::position::east;
+use samples::streams::east;
 ghost use mathlib.Core.Bool.{cond, _&&_};
 ghost use mathlib.Core.Path.{_≡_};
 ghost use Prim.Native.Nat.{_<_};

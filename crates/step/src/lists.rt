@@ -1,6 +1,6 @@
 // The lists of sample numbers that chain steps work on, each written in one pass: a number is stored, and the place moves on by the test.
 use picker::keys::key;
-use samples::position::east;
+use samples::streams::east;
 ghost use mathlib.Core.Path.{_≡_};
 ghost use mathlib.Core.List.{map};
 ghost use Prim.Native.Nat.{_+_, _≤_};

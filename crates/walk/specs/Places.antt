@@ -1,19 +1,17 @@
 -- The places of both rings: which corner stands where, how many there are, and that mirrored they are as near.
 -- Assumes nothing.
 use mathlib.Core.Path.{_≡_, sym, ap, ap₂, _∙_}
-use mathlib.Core.Bool.{Bool, true, false}
+use mathlib.Core.Bool.{Bool}
 use mathlib.Core.List.{List}
 use Prim.Native.Nat.{ℕ, _+_, _-_, _≤_, _<_}
 use native.Mathlib.Omega.{arith}
 use lib.IntN.{ℤ, pos}
 use lib.ListN.{length, List·getD-append, length-append}
 use lib.Seq.{getD-append-add}
-use Rattle.whole.specs.Solver.{var, ⊝_}
-use Rattle.whole.specs.Fits.{[]ʷ, _∷ʷ_, value-within}
-use Rattle.rules.specs.Streams.{Stream, stream, streams, sample}
+use Rattle.rules.specs.Streams.{stream, streams, sample}
 use Rattle.samples.specs.Positions.{Near}
-use Rattle.samples.specs.Samples.{streams-length}
-use Rattle.walk.specs.TwoRings.{both, count, facing, corner-at, Corners}
+use Rattle.samples.specs.Samples.{streams-length, facing-near}
+use Rattle.walk.specs.TwoRings.{both, count, corner-at, Corners}
 
 module _ (es ns fs ms : List ℤ) (even : length es ≡ length ns) where
   first-length : length (streams es ns) ≡ length es
@@ -32,9 +30,5 @@ pub both-length : {es ns fs ms : List ℤ} → Corners es ns fs ms → length (b
 both-length {es} {ns} {fs} {ms} r =
     length-append (streams es ns) (streams fs ms) ∙ ap₂ _+_ (streams-length es ns (r .even)) (streams-length fs ms (r .even2))
 
-facing-near : (lower : Bool) (s : Stream) → Near s → Near (facing lower s)
-facing-near false s h = h
-facing-near true s h = record { east-near = h .east-near; north-near = value-within (h .north-near ∷ʷ []ʷ) (⊝ var 0) }
-
 pub corner-near : {es ns fs ms : List ℤ} → Corners es ns fs ms → (lower : Bool) (k : ℕ) → Near (corner-at es ns fs ms lower k)
-corner-near {es} {ns} {fs} {ms} r lower k = facing-near lower (sample (both es ns fs ms) k) (r .near k)
+corner-near {es} {ns} {fs} {ms} r lower k = facing-near lower (r .near k)

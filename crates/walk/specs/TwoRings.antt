@@ -8,10 +8,10 @@ use Prim.Native.Nat.{ℕ, suc, _+_, _-_, _≤_, _<_}
 use lib.IntN.{ℤ}
 use lib.Signed.{_≤ℤ_}
 use lib.ListN.{length, getD}
-use Rattle.rules.specs.Streams.{Stream, stream, streams, sample, most}
+use Rattle.rules.specs.Streams.{Stream, streams, sample, most}
 use Rattle.rules.specs.Chain.{UpperChain}
 use Rattle.laws_outline.specs.Under.{Under}
-use Rattle.samples.specs.Positions.{faced, Near}
+use Rattle.samples.specs.Positions.{facing, Near}
 use Rattle.laws_stack.specs.Places.{listed}
 use Rattle.laws_stack.specs.Stack.{With, Before, Upto, Stacked, stays}
 use Rattle.laws_stack.specs.Hills.{Hill}
@@ -24,10 +24,6 @@ both es ns fs ms = streams es ns ++ streams fs ms
 
 abbrev pub count : List ℤ → List ℤ → ℕ
 count es fs = length es + length fs
-
--- as it is, for the upper chain, or mirrored, for the lower
-abbrev pub facing : Bool → Stream → Stream
-facing lower s = stream (s .east) (faced lower (s .north))
 
 -- two lists of corners that passed their tests: level, and every part within the limit
 pub record Corners (es ns fs ms : List ℤ) : Type 0 where

@@ -4,12 +4,12 @@ ghost use mathlib.Core.Path.{_≡_};
 ghost use Prim.Native.Nat.{_<_};
 ghost use lib.Signed.{ltZ};
 ghost use lib.ListN.{length, getD};
-ghost use Rattle.rules.specs.Streams.{sample, same};
-ghost use Rattle.samples.specs.Positions.{Near};
+ghost use Rattle.rules.specs.Streams.{sample};
 ghost use Rattle.samples.specs.HeldStream.{stream-of};
-ghost use Rattle.walk.specs.TwoRings.{Corners, both, count, facing, corner-at, listed-at};
+ghost use Rattle.walk.specs.TwoRings.{Corners, both, count, corner-at, listed-at};
 use samples::streams::Stream;
 use samples::streams::at;
+use samples::streams::faced;
 
 // p is further west than q.
 pub fn west(p: Stream, q: Stream) -> bool
@@ -23,30 +23,6 @@ pub fn south(p: Stream, q: Stream) -> bool
     ensures { λ r. ⌜ r ≡ ltZ (p .north) (q .north) ⌝ }
 {
     p.north < q.north
-}
-
-// p and q stand at one position.
-pub fn same(p: Stream, q: Stream) -> bool
-    ensures { λ r. ⌜ r ≡ same (stream-of p) (stream-of q) ⌝ }
-{
-    if p.east == q.east {
-        return p.north == q.north;
-    }
-    false
-}
-
-// The stream as it is, or, for the lower side, mirrored.
-fn faced(lower: bool, s: Stream) -> Stream
-    requires { ⌜ Near (stream-of s) ⌝ }
-    ensures { λ r. ⌜ stream-of r ≡ facing lower (stream-of s) ⌝ }
-{
-    if lower {
-        return Stream {
-            east: s.east,
-            north: -s.north,
-        };
-    }
-    s
 }
 
 // The corner at place k of both rings.

@@ -337,7 +337,7 @@ pub +chain+step-spec : {M : Type 1} → statement M
     (chain-claims t)
     (chain-at t)
     chain.Post
-    (λ c κs. let a = c .before .pre .1 in (a .sampled .even, (a .left-below, a .right-below)))
+    (λ c κs. let a = c .before .pre .1 in (a .sampled, (a .left-below, a .right-below)))
     (chain-slice-write-w t)
     (λ c. search needs)
     (chain-returns t)

@@ -1,33 +1,27 @@
 -- `round::keep::of_pair` meets its contract: each return is what the tested orders leave of the pair. Assumes nothing.
 use mathlib.Core.Path.{_≡_, sym, ap, ap₂, _∙_, subst, subst₂}
 use mathlib.Core.Bool.{Bool, not, _||_}
-use mathlib.Core.List.{List, [], _∷_}
+use mathlib.Core.List.{[], _∷_}
 use mathlib.Core.Logic.{_≢_, ⊎-elim}
 use Prim.Native.Nat.{ℕ}
 use borrow.Author.Needs.{needs}
 use lib.IntN.{ℤ, pos, _-ℤ_}
 use lib.Signed.{ltZ}
-use mir.Syntax.{w64}
+use mir.Syntax.{w32, w64}
 use mir.Val.{toZ, ofZ}
 use Rattle.whole.specs.Laws.{≡→0≡, 0≡→≡}
-use Rattle.whole.specs.Solver.{Ex, var, _⊖_, ⊝_}
+use Rattle.whole.specs.Solver.{var, ⊝_}
 use Rattle.whole.specs.Fits.{Leaves, step-fits, word-is, lt-is}
 use Rattle.rules.specs.Streams.{Stream}
 use Rattle.slopes.specs.Fractions.{as-slope}
-use Rattle.samples.specs.Positions.{Near, at, place}
+use Rattle.samples.specs.Positions.{Near, at}
+use Rattle.samples.specs.HeldStream.{stream-of}
 use Rattle.samples.specs.Samples.{near-at}
 use Rattle.round.specs.Keeping.{excess, chosen}
 use Rattle.round.proofs.Choosing.{away, slanted-pair, upright-pair}
-use Rattle.round.proofs.RoundWords.{two-leaves, word-of}
+use Rattle.round.proofs.RoundWords.{parts, two-leaves, way, word-of}
 use Rattle.round.proofs.keep.of_pair.Statement.{statement}
 use Rattle.round.proofs.keep.of_pair.Tie as tie
-
--- the four numbers of two positions, and how far east of the first the second stands
-abbrev parts : Stream → Stream → List ℤ
-parts p q = p .east ∷ p .north ∷ q .east ∷ q .north ∷ []
-
-abbrev way : Ex
-way = var 2 ⊖ var 0
 
 -- what is known once both positions are found
 module _ (d : tie.After-position-of2) where
@@ -49,7 +43,7 @@ module _ (d : tie.After-position-of2) where
   near : (x : ℕ) → Near (places x)
   near = near-at (start .pre .sampled) (start .args .lower)
 
-  leaves : Leaves (parts (place (first .position-of .result)) (place (d .position-of2 .result))) (parts p q) (1000000 ∷ 1000000 ∷ 1000000 ∷ 1000000 ∷ [])
+  leaves : Leaves (parts (stream-of (first .position-of .result)) (stream-of (d .position-of2 .result))) (parts p q) (1000000 ∷ 1000000 ∷ 1000000 ∷ 1000000 ∷ [])
   leaves =
       subst₂ (λ (s t : Stream). Leaves (parts s t) (parts p q) (1000000 ∷ 1000000 ∷ 1000000 ∷ 1000000 ∷ []))
       (sym (first .position-of .ensures)) (sym (d .position-of2 .ensures))
@@ -62,10 +56,10 @@ excess-requires c κs = (
 )
 
 sub-d : tie.Need-sub-d
-sub-d c = step-fits w64 (leaves (c .before .before .before .before .before)) way tt
+sub-d c = step-fits w32 (leaves (c .before .before .before .before .before)) way tt
 
 sub-g : tie.Need-sub-g
-sub-g c = step-fits w64 (leaves (c .before .before .before .before .before .before .before)) (⊝ way) tt
+sub-g c = step-fits w32 (leaves (c .before .before .before .before .before .before .before)) (⊝ way) tt
 
 returns : tie.Need-returns
 returns c =
@@ -74,13 +68,13 @@ returns c =
     let a = start d .args in
     let l = leaves d in
     let differ : p d .east ≢ q d .east =
-    λ e. c .before .if1 .taken (ap (ofZ w64) (ap₂ _-ℤ_ (word-is w64 l (var 2) tt) (word-is w64 l (var 0) tt) ∙ ≡→0≡ e))
+    λ e. c .before .if1 .taken (ap (ofZ w32) (ap₂ _-ℤ_ (word-is w32 l (var 2) tt) (word-is w32 l (var 0) tt) ∙ ≡→0≡ e))
     in
     let seen : Bool → ℤ = λ w. away w (p d .east) (q d .east) in
-    let g-is : toZ w64 (c .if2 .g) ≡ seen (a .west) =
+    let g-is : toZ w32 (c .if2 .g) ≡ seen (a .west) =
     ⊎-elim
-    (λ h. ap (toZ w64) (h .1) ∙ word-is w64 l way tt ∙ ap seen (sym (h .0 .taken)))
-    (λ h. ap (toZ w64) (h .1) ∙ word-is w64 l (⊝ way) tt ∙ ap seen (sym (h .0 .left)))
+    (λ h. ap (toZ w32) (h .1) ∙ word-is w32 l way tt ∙ ap seen (sym (h .0 .taken)))
+    (λ h. ap (toZ w32) (h .1) ∙ word-is w32 l (⊝ way) tt ∙ ap seen (sym (h .0 .left)))
     (c .if2 .came)
     in
     let c-is : toZ w64 (ofZ w64 (f .excess .result)) ≡ excess (as-slope (a .k)) (p d) (q d) =
@@ -98,8 +92,8 @@ returns-2 c =
     let a = start d .args in
     let l = leaves d in
     upright-pair (places d) (as-slope (a .k)) (a .x) (a .y) _
-    (0≡→≡ (p d .east) (q d .east) (sym (word-is w64 l way tt) ∙ ap (toZ w64) (e .if1 .left)))
-    ∙ ap (λ (b : Bool). chosen (not b) b (a .x) (a .y)) (sym (lt-is w64 l (var 1) (var 3) tt tt))
+    (0≡→≡ (p d .east) (q d .east) (sym (word-is w32 l way tt) ∙ ap (toZ w32) (e .if1 .left)))
+    ∙ ap (λ (b : Bool). chosen (not b) b (a .x) (a .y)) (sym (lt-is w32 l (var 1) (var 3) tt tt))
 
 pub of-pair-spec : {M : Type 1} → statement M
 of-pair-spec = tie.close (tie.spec (λ c κs. search needs) (λ c κs. search needs) excess-requires sub-d sub-g returns returns-2)

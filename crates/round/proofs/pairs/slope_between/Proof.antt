@@ -7,7 +7,7 @@ use Rattle.rules.specs.Streams.{Stream}
 use mathlib.Core.Logic.{⊎-elim}
 use lib.IntN.{ℤ, pos, negℤ, _-ℤ_}
 use lib.Signed.{_≤ℤ_, _<ℤ_, ltZ}
-use mir.Syntax.{w64}
+use mir.Syntax.{w32}
 use Rattle.whole.specs.Linear.{order, difference, negation}
 use Rattle.whole.specs.Laws.{≤ℤ-split}
 use Rattle.whole.specs.Solver.{var, num, _⊕_, _⊖_, ⊝_}
@@ -22,10 +22,10 @@ use Rattle.round.proofs.pairs.slope_between.Tie as tie
 -- the sign of the run says which lies west
 module _ {p q : Stream} (hp : Near p) (hq : Near q) where
   abbrev run : ℤ
-  run = word w64 (p .east ∷ p .north ∷ q .east ∷ q .north ∷ []) (var 2 ⊖ var 0)
+  run = word w32 (p .east ∷ p .north ∷ q .east ∷ q .north ∷ []) (var 2 ⊖ var 0)
 
   run-sign : {b : Bool} → ltZ run (pos 0) ≡ b → ltZ (q .east -ℤ p .east) (pos 0) ≡ b
-  run-sign e = sym (lt-is w64 (two-leaves hp hq) (var 2 ⊖ var 0) (num (pos 0)) tt tt) ∙ e
+  run-sign e = sym (lt-is w32 (two-leaves hp hq) (var 2 ⊖ var 0) (num (pos 0)) tt tt) ∙ e
 
   second-west : ltZ run (pos 0) ≡ true → q .east <ℤ p .east
   second-west e = let s = run-sign e in omega (order, difference (q .east) (p .east))
@@ -47,17 +47,17 @@ abbrev start : tie.After-struct-told4 → tie.Start
 start c = start-run (c .before .before .before .before)
 
 sub-run : tie.Need-sub-run
-sub-run c = let h = start-run c .pre in step-fits w64 (two-leaves (h .0) (h .1)) (var 2 ⊖ var 0) tt
+sub-run c = let h = start-run c .pre in step-fits w32 (two-leaves (h .0) (h .1)) (var 2 ⊖ var 0) tt
 
 sub-rise : tie.Need-sub-rise
 sub-rise c =
     let h = start c .pre in
-    step-fits w64 (two-leaves (h .0) (h .1)) (var 3 ⊖ var 1) tt
+    step-fits w32 (two-leaves (h .0) (h .1)) (var 3 ⊖ var 1) tt
 
 sub-t6 : tie.Need-sub-t6
 sub-t6 c =
     let h = start (c .before) .pre in
-    step-fits w64 (two-leaves (h .0) (h .1)) (num (pos 2000000) ⊖ (var 3 ⊖ var 1)) tt
+    step-fits w32 (two-leaves (h .0) (h .1)) (num (pos 2000000) ⊖ (var 3 ⊖ var 1)) tt
 
 cast-t7 : tie.Need-cast-t7
 cast-t7 c =
@@ -67,7 +67,7 @@ cast-t7 c =
 sub-t8 : tie.Need-sub-t8
 sub-t8 c =
     let h = start (c .before) .pre in
-    step-fits w64 (two-leaves (h .0) (h .1)) (⊝ (var 2 ⊖ var 0)) tt
+    step-fits w32 (two-leaves (h .0) (h .1)) (⊝ (var 2 ⊖ var 0)) tt
 
 cast-t9 : tie.Need-cast-t9
 cast-t9 c =
@@ -84,7 +84,7 @@ returns c =
 add-t10 : tie.Need-add-t10
 add-t10 c =
     let h = start (c .before) .pre in
-    step-fits w64 (two-leaves (h .0) (h .1)) (num (pos 2000000) ⊕ (var 3 ⊖ var 1)) tt
+    step-fits w32 (two-leaves (h .0) (h .1)) (num (pos 2000000) ⊕ (var 3 ⊖ var 1)) tt
 
 cast-t11 : tie.Need-cast-t11
 cast-t11 c =

@@ -47,8 +47,8 @@ end-of-spec =
     μ-loop
     (λ c. scanned-none (omega arith))
     (λ c. omega arith)
-    (λ c κs. omega arith)
-    (λ c κs. omega arith)
+    (λ c κs. (c .before .before .pre .sampled, omega arith))
+    (λ c κs. (c .before .before .before .pre .sampled, omega arith))
     (λ c κs. tt)
     (λ c. omega arith)
     (λ c. omega arith)

@@ -2,8 +2,7 @@
 -- Assumes nothing.
 use mathlib.Core.Path.{sym, ap, _∙_, subst}
 use borrow.Author.Needs.{needs}
-use Rattle.samples.specs.Positions.{Near}
-use Rattle.walk.specs.TwoRings.{facing}
+use Rattle.samples.specs.Positions.{facing, Near}
 use Rattle.walk.proofs.corners.seen.Statement.{statement}
 use Rattle.walk.proofs.corners.seen.Tie as tie
 

@@ -1,4 +1,4 @@
--- `walk::corners::faced` meets its contract: the north of a near stream can be negated.
+-- `samples::streams::faced` meets its contract: the north of a near stream can be negated.
 -- Assumes nothing.
 use mathlib.Core.Path.{refl, ap₂}
 use mir.Syntax.{w32}
@@ -6,9 +6,9 @@ use mir.Facts.{toZ-ofZ}
 use Rattle.whole.specs.Solver.{var, ⊝_}
 use Rattle.whole.specs.Fits.{[]ʷ, _∷ʷ_, step-fits, word-is}
 use Rattle.rules.specs.Streams.{stream}
 use Rattle.samples.specs.StreamWords.{near-fits}
-use Rattle.walk.proofs.corners.faced.Statement.{statement}
-use Rattle.walk.proofs.corners.faced.Tie as tie
+use Rattle.samples.proofs.streams.faced.Statement.{statement}
+use Rattle.samples.proofs.streams.faced.Tie as tie
 
 sub-t4 : tie.Need-sub-t4
 sub-t4 c = step-fits w32 (c .before .before .before .pre .north-near ∷ʷ []ʷ) (⊝ var 0) tt

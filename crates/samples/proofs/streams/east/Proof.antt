@@ -1,12 +1,12 @@
--- `samples::position::east` meets its contract. Assumes nothing.
+-- `samples::streams::east` meets its contract. Assumes nothing.
 use borrow.Author.Needs.{needs}
 use lib.IntN.{pos}
 use lib.ListN.{getD}
 use mir.Syntax.{w32, w64}
 use Rattle.whole.specs.Solver.{var}
 use Rattle.whole.specs.Fits.{[]ʷ, _∷ᶜ_, cast-read, step-fits, word-is}
-use Rattle.samples.proofs.position.east.Statement.{statement}
-use Rattle.samples.proofs.position.east.Tie as tie
+use Rattle.samples.proofs.streams.east.Statement.{statement}
+use Rattle.samples.proofs.streams.east.Tie as tie
 
 cast-result : tie.Need-cast-result
 cast-result c = let a = c .before .args in step-fits w64 (cast-read w32 (getD (a .e .now) (a .x) (pos 0)) (c .result .given) ∷ᶜ []ʷ) (var 0) tt

@@ -1,4 +1,4 @@
--- `walk::corners::same` meets its contract.
+-- `samples::streams::same` meets its contract.
 -- Assumes nothing.
 use mathlib.Core.Path.{_≡_, sym, ap, ap₂, _∙_}
 use mathlib.Core.Bool.{Bool, _&&_}
@@ -7,10 +7,10 @@ use borrow.Author.Tests.{eq-eqb, ne-eqb}
 use mir.Syntax.{w32}
 use mir.Val.{ofZ}
 use Rattle.rules.specs.Streams.{eqZ, same}
 use Rattle.samples.specs.declared.streams.Stream.{Stream}
-use Rattle.walk.specs.StreamTests.{words-equal}
-use Rattle.walk.proofs.corners.same.Statement.{statement}
-use Rattle.walk.proofs.corners.same.Tie as tie
+use Rattle.samples.specs.StreamWords.{words-equal}
+use Rattle.samples.proofs.streams.same.Statement.{statement}
+use Rattle.samples.proofs.streams.same.Tie as tie
 
 -- the two tests of the words are those of the numbers
 module _ (c : tie.After-struct-told2) where
@@ -22,11 +22,11 @@ module _ (c : tie.After-struct-told2) where
 
   easts : eqb (ofZ w32 (p .east)) (ofZ w32 (q .east)) ≡ eqZ (p .east) (q .east)
   unfolding p q
-  easts = words-equal w32 (p .east) (q .east) (c .before .before .struct-told .given .0 .1) (c .struct-told2 .given .0 .1)
+  easts = words-equal (p .east) (q .east) (c .before .before .struct-told .given .0 .1) (c .struct-told2 .given .0 .1)
 
   norths : eqb (ofZ w32 (p .north)) (ofZ w32 (q .north)) ≡ eqZ (p .north) (q .north)
   unfolding p q
-  norths = words-equal w32 (p .north) (q .north) (c .before .before .struct-told .given .1 .0 .1) (c .struct-told2 .given .1 .0 .1)
+  norths = words-equal (p .north) (q .north) (c .before .before .struct-told .given .1 .0 .1) (c .struct-told2 .given .1 .0 .1)
 
 returns : tie.Need-returns
 unfolding same p q

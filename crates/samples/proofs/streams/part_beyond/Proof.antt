@@ -1,4 +1,4 @@
--- `samples::tests::part_beyond` meets its contract. Assumes nothing.
+-- `samples::streams::part_beyond` meets its contract. Assumes nothing.
 use mathlib.Core.Path.{sym, ap, _∙_}
 use borrow.Author.Needs.{needs}
 use lib.IntN.{ℤ, pos, negℤ}
@@ -6,8 +6,8 @@ use lib.Signed.{ltZ}
 use mir.Facts.{toZ-ofZ}
 use Rattle.rules.specs.Streams.{limit}
 use Rattle.samples.specs.Samples.{beyond-below, beyond-above}
-use Rattle.samples.proofs.tests.part_beyond.Statement.{statement}
-use Rattle.samples.proofs.tests.part_beyond.Tie as tie
+use Rattle.samples.proofs.streams.part_beyond.Statement.{statement}
+use Rattle.samples.proofs.streams.part_beyond.Tie as tie
 
 returns : tie.Need-returns
 returns c =
