@@ -1,5 +1,5 @@
--- One side: its ends, its first list and the chain of that, told by the numbers that the rules report. And both sides, one behind the other.
--- Assumes nothing.
+-- One side: its ends, its first list and the chain of that, told by the numbers that the rules report. And both sides, one behind the other, where the tests of
+-- the samples are passed. Assumes nothing.
 use mathlib.Core.Path.{_≡_, refl, sym, ap, _∙_, subst, subst⁻¹}
 use mathlib.Core.Logic.{⊎-elim}
 use mathlib.Core.Bool.{Bool, true, false}
@@ -8,17 +8,22 @@ use Prim.Native.Nat.{ℕ, zero, suc, _+_, _-_, _*_, _≤_, _<_}
 use native.Mathlib.Nat.{le-refl}
 use native.Mathlib.Omega.{arith}
 use lib.IntN.{ℤ}
+use lib.Dec.{ltb}
 use lib.ListN.{length, take, drop}
 use lib.Seq.{length-take-le, take-append-le, drop-at}
+use borrow.Author.Tests.{ltb-false}
 use borrow.Rule.Slice.PartMut.{midOf, putMid, mid-len, same-len-mid, take-put}
-use Rattle.rules.specs.Streams.{Stream, streams}
+use Rattle.rules.specs.Streams.{Stream, streams, most}
 use Rattle.rules.specs.Chain.{corners, upper, lower, upper-numbers, lower-numbers}
+use Rattle.rules.specs.Refusals.{Test, test}
+use Rattle.rules.specs.Entries.{step-without-bridge}
+use Rattle.rules.specs.Entries as entries
 use Rattle.laws_outline.specs.ListLaws.{those-most, those-in}
 use Rattle.laws_rounds.specs.ListedItems.{first-of-in}
 use Rattle.laws_rounds.specs.Pairs.{here}
-use Rattle.laws_rounds.specs.StepsAtMiddle.{BySteps}
+use Rattle.laws_rounds.specs.StepsAtMiddle.{BySteps, no-step-without-bridge}
 use Rattle.laws_rounds.specs.WholeList.{numbers, numbers-length}
-use Rattle.samples.specs.Positions.{Listed, at, east-of}
+use Rattle.samples.specs.Positions.{Sampled, Listed, at, east-of}
 use Rattle.step.specs.NumberLists.{between, first-numbers, FirstAsks, Listing}
 use Rattle.step.specs.Ends.{EndOf, nearest}
 use Rattle.step.specs.Chaining.{Chainable}
@@ -27,7 +32,10 @@ use Rattle.step.specs.FirstList.{first-chainable, first-chain, end-is}
 use Rattle.step.specs.declared.Stepped.{Stepped}
 use Rattle.step.specs.declared.Stepped.the-variants.{Chain, NoBridge}
 use Rattle.laws_outline.specs.Numbers.{lower-mirrored}
-use Rattle.chains.specs.BothSides.{side-numbers, SideAsks, SideIs, SideSays, BothAre}
+use Rattle.samples.specs.Tests.{tested-of, sample-tests, then-tested, tested-by, passed-by, passed-tests, sampled-few, quiet-scratch}
+use Rattle.samples.specs.declared.tests.Tested.{Tested}
+use Rattle.samples.specs.declared.tests.Tested.the-variants.{Passed, Refused}
+use Rattle.chains.specs.BothSides.{side-numbers, SideAsks, SideIs, SideSays, BothAre, SidesRefused}
 
 -- ---- the numbers of a side
 
@@ -130,3 +138,35 @@ both-are {es} {ns} {u} {v} {w} {ys} room a b long =
   where
     part : length ys ≡ length w - u
     part = long ∙ mid-len u (length w) w (le-refl (length w))
+
+-- ---- the tests
+
+then-passed : (t : Tested) → then-tested t Passed ≡ t
+then-passed Passed = refl
+then-passed (Refused number place) = refl
+
+module _ (es ns : List ℤ) (w : List ℕ) where
+  -- 1, 2, 3, 4
+  abbrev tests : List Test
+  tests = sample-tests es ns (length w)
+
+  -- what they say is what all say, since 18 is never given
+  pub tested-all : {t : Tested} → tested-of tests ≡ t → tested-of (entries.sample-tests es ns w) ≡ t
+  tested-all {t} e =
+      let last = test 18 0 (step-without-bridge (streams es ns)) ∷ [] in
+      tested-by tests last e ∙ ap (then-tested t) (passed-by last (no-step-without-bridge (streams es ns), tt)) ∙ then-passed t
+
+  pub sides-refused : {number place : ℕ} → tested-of tests ≡ Refused number place → SidesRefused es ns w number place w
+  sides-refused e = record { tests = tested-all e; scratch-is = sym (quiet-scratch tests tt e w) }
+
+-- samples that pass, with room for both sides
+pub record Admitted (es ns : List ℤ) (w : List ℕ) : Type 0 where
+  pub sampled : Sampled es ns
+  pub few : length es ≤ most
+  pub room : 16 * length es + 64 ≤ length w
+
+pub admitted : (es ns : List ℤ) (w : List ℕ) → tested-of (sample-tests es ns (length w)) ≡ Passed → Admitted es ns w
+admitted es ns w e =
+    let n = passed-tests (sample-tests es ns (length w)) e in
+    let s = sampled-few es ns (test 4 0 (ltb (length w) (16 * length es + 64)) ∷ []) n in
+    record { sampled = s .0; few = s .1; room = ltb-false (length w) (16 * length es + 64) (n .1 .1 .1 .0) }

@@ -1,7 +1,7 @@
 -- The promise of chains: its answer, and what it leaves of all that is lent, as the rules have them.
 -- Assumes nothing.
 use mathlib.Core.Path.{_≡_}
-use mathlib.Core.Bool.{_||_}
+use mathlib.Core.Bool.{Bool, _||_}
 use mathlib.Core.List.{List, [], _∷_}
 use Prim.Native.Nat.{ℕ}
 use lib.IntN.{ℤ}
@@ -40,9 +40,16 @@ ChainsPromise es ns upper lower scratch r upper-left lower-left scratch-left =
 
 -- ---- the last test: the outputs are long enough for both chains
 
+-- both chains, by their numbers
+abbrev pub two : List ℕ → List ℕ → Chains
+two u l = record { upper = u; lower = l }
+
+-- one of the two is too long for its output
+abbrev pub short : List ℕ → List ℕ → List ℕ → List ℕ → Bool
+short u l upper lower = ltb (length upper) (length u) || ltb (length lower) (length l)
+
 abbrev pub fits : List ℕ → List ℕ → List ℕ → List ℕ → Answer Chains
-fits u l upper lower =
-    unless (output-short (ltb (length upper) (length u) || ltb (length lower) (length l)) ∷ []) (record { upper = u; lower = l })
+fits u l upper lower = unless (output-short (short u l upper lower) ∷ []) (two u l)
 
 abbrev pub ChainsWritten : List ℕ → List ℕ → List ℕ → List ℕ → List ℕ → ChainsAnswer → List ℕ → List ℕ → List ℕ → Type 0
 ChainsWritten u l upper lower scratch r upper-left lower-left scratch-left =

@@ -2,9 +2,6 @@
 pub mod sides;
 mod write;
 
-use samples::tests::Tested;
-use samples::tests::of_samples;
-use samples::words::clear;
 use sides::Sides;
 use sides::sides_of;
 ghost use Rattle.chains.specs.Promise.{ChainsPromise};
@@ -26,17 +23,8 @@ pub fn chains(
     ensures { λ r. ⌜ ChainsPromise (now (east .entry)) (now (north .entry)) (now (upper .entry)) (now (lower .entry)) (now (scratch .entry)) r
         (now (upper .exit)) (now (lower .exit)) (now (scratch .exit)) ⌝ }
 {
-    match of_samples(east, north, scratch.len()) {
-        Tested::Refused { number, place } => ChainsAnswer::Refused { number, place },
-        Tested::Passed => match sides_of(east, north, scratch) {
-            Sides::NoBridge => {
-                clear(scratch);
-                ChainsAnswer::Refused {
-                    number: 18,
-                    place: 0,
-                }
-            }
-            Sides::Both { upper: u, lower: v } => write::both(u, v, upper, lower, scratch),
-        },
+    match sides_of(east, north, scratch) {
+        Sides::Refused { number, place } => ChainsAnswer::Refused { number, place },
+        Sides::Both { upper: u, lower: v } => write::both(u, v, upper, lower, scratch),
     }
 }

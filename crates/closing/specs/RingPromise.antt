@@ -1,17 +1,18 @@
 -- What comes of an entry that writes a ring, in the rules' words: its answer, and the content of everything lent.
 -- Assumes nothing.
 use mathlib.Core.Path.{_≡_, refl, sym, ap, _∙_, subst⁻¹}
-use mathlib.Core.Bool.{Bool, true, false, cond, _||_}
+use mathlib.Core.Bool.{Bool, false, cond, _||_}
 use mathlib.Core.List.{List, [], _∷_}
 use Prim.Native.Nat.{ℕ}
 use lib.IntN.{ℤ}
 use lib.Dec.{ltb, eqb}
-use lib.ListN.{length, replicate}
+use lib.ListN.{length}
 use Rattle.rules.specs.Lists.{zeros}
 use Rattle.rules.specs.Streams.{Stream}
-use Rattle.rules.specs.Refusals.{Answer, refused, done, unless, output-after, scratch-after}
+use Rattle.rules.specs.Refusals.{Answer, refused, unless, output-after, scratch-after}
 use Rattle.rules.specs.Entries.{ring-short, easts, norths, counted}
 use Rattle.samples.specs.CountedAnswers.{counted-as}
+use Rattle.samples.specs.Tests.{scratch-by-length}
 use Rattle.samples.specs.declared.answers.Counted.{Counted}
 use Rattle.samples.specs.declared.answers.Counted.the-variants as counts
 
@@ -42,12 +43,8 @@ module _ {r : Counted} {east east' north north' : List ℤ} {scratch scratch' : 
         says = o .says;
         east-after = o .east-after;
         north-after = o .north-after;
-        scratch-is = o .scratch-is ∙ go (ltb (length east) (length R) || ltb (length north) (length R));
+        scratch-is = o .scratch-is ∙ scratch-by-length (ltb (length east) (length R) || ltb (length north) (length R)) R w scratch e;
       })
-    where
-      go : (b : Bool) → scratch-after (cond b (refused 5 0) (done R)) w ≡ scratch-after (cond b (refused 5 0) (done R)) scratch
-      go true = ap (λ (m : ℕ). replicate m 0) e
-      go false = ap (λ (m : ℕ). replicate m 0) e
 
 -- a refusal before the last test leaves what is lent as it was, unless its number is 5 or 18
 pub outcome-refused : {answer : Answer (List Stream)} (number place : ℕ) {east north : List ℤ} {scratch : List ℕ} → answer ≡ refused number place

@@ -14,18 +14,18 @@ use Rattle.rules.specs.Lists.{some-of}
 use Rattle.rules.specs.Streams.{Stream, streams, sample, same}
 use Rattle.rules.specs.Chain.{Of, UpperChain, empty, starts, upper, lower, lowest, upper-numbers, lower-numbers}
 use Rattle.rules.specs.Ring.{closed, ring}
+use Rattle.rules.specs.Entries.{sample-tests}
 use Rattle.laws_outline.specs.ListLaws.{at-place-in, is-some-of, first-place-in, first-place-passes}
 use Rattle.laws_outline.specs.SamePosition.{same-equal, equal-same}
 use Rattle.laws_outline.specs.Chains.{upper-is, upper-corners}
 use Rattle.laws_outline.specs.SameOutline.{lower-corners}
-use Rattle.samples.specs.Positions.{Near}
-use Rattle.samples.specs.Samples.{sample-near, streams-length}
+use Rattle.samples.specs.Samples.{read-near, streams-length}
 use Rattle.laws_stack.specs.Places.{listed, length-listed, listed-alike}
 use Rattle.walk.specs.TwoRings.{Corners, both, count}
 use Rattle.closing.specs.TwoChains.{Both, upper-at, lower-at}
-use Rattle.samples.specs.Tests.{tested-of, sample-tests, passed-tests}
+use Rattle.samples.specs.Tests.{tested-of, passed-tests, sampled-few}
 use Rattle.samples.specs.declared.tests.Tested.the-variants.{Passed}
-use Rattle.chains.specs.BothSides.{BothAre, sides-ask}
+use Rattle.chains.specs.BothSides.{BothAre}
 
 -- ---- corners by their numbers
 
@@ -79,16 +79,15 @@ module _ (es ns : List ℤ) where
   unfolding streams
   alone = append-nil xs
 
-  -- samples that passed the tests 1, 2, 3, 4
-  pub samples-corners : (w : List ℕ) → tested-of (sample-tests es ns (length w)) ≡ Passed → Corners es ns [] []
-  samples-corners w e =
-      let asks = sides-ask es ns w e in
-      let few = asks .few in
+  -- samples that passed their tests
+  pub samples-corners : (scratch : List ℕ) → tested-of (sample-tests es ns scratch) ≡ Passed → Corners es ns [] []
+  samples-corners scratch e =
+      let s = sampled-few es ns (drop 3 (sample-tests es ns scratch)) (passed-tests (sample-tests es ns scratch) e) in
       record {
-        even = asks .sampled .even;
+        even = s .0 .even;
         even2 = refl;
-        few = omega arith;
-        near = λ k. subst⁻¹ (λ (l : List Stream). Near (sample l k)) alone (sample-near xs (passed-tests (sample-tests es ns (length w)) e .1 .1 .0) k);
+        few = omega (arith, s .1);
+        near = λ k. read-near (s .0) k (ap (λ (l : List Stream). sample l k) alone);
       }
 
   module _ {u v : ℕ} {w : List ℕ} (b : BothAre es ns u v w) where

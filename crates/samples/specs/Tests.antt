@@ -7,11 +7,11 @@ use Prim.Native.Nat.{ℕ, _+_, _*_, _≤_}
 use native.Mathlib.Omega.{arith}
 use lib.IntN.{ℤ}
 use lib.Dec.{T, ltb, eqb}
-use lib.ListN.{length}
+use lib.ListN.{length, replicate}
 use borrow.Author.Tests.{eqb-true, ltb-false, not-false}
 use Rattle.rules.specs.Lists.{zeros}
 use Rattle.rules.specs.Streams.{most}
-use Rattle.rules.specs.Refusals.{Answer, refused, Test, test, unless, ring-tests}
+use Rattle.rules.specs.Refusals.{Answer, refused, Test, test, unless, output-short, ring-tests, scratch-after}
 use Rattle.samples.specs.declared.tests.Tested.{Tested}
 use Rattle.samples.specs.declared.tests.Tested.the-variants.{Passed, Refused}
 use Rattle.samples.specs.Positions.{Sampled}
@@ -134,3 +134,9 @@ quiet-number (t ∷ ts) q {k} {p} e = go (t .holds) (eqb (t .number) 5 || eqb (t
 pub quiet-scratch : (ts : List Test) → T (quiet ts) → {k p : ℕ} → tested-of ts ≡ Refused k p → (old : List ℕ)
     → cond (eqb k 5 || eqb k 18) (zeros old) old ≡ old
 quiet-scratch ts q e old = ap (λ (b : Bool). cond b (zeros old) old) (quiet-number ts q e)
+
+-- after the last test, 5, all scratch is zero: what was made of it on the way is no matter, but its length
+pub scratch-by-length : {A : Type 0} (short : Bool) (x : A) (now old : List ℕ) → length now ≡ length old
+    → scratch-after (unless (output-short short ∷ []) x) now ≡ scratch-after (unless (output-short short ∷ []) x) old
+scratch-by-length true x now old e = ap (λ (n : ℕ). replicate n 0) e
+scratch-by-length false x now old e = ap (λ (n : ℕ). replicate n 0) e

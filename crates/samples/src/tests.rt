@@ -18,7 +18,7 @@ pub enum Tested {
     Refused { number: u32, place: usize },
 }
 
-// at most so many samples, or corners
+// at most so many samples, readings, items of a list (numbers, sample numbers), corners, and corners of two rings together
 pub const MOST: usize = 65536;
 
 // The first place with a part beyond the limit, or the number of samples where there is none.

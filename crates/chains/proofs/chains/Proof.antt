@@ -1,25 +1,13 @@
--- `chains::chains` meets its promise: the tests refuse, or both chains are made and written. Assumes nothing.
-use mathlib.Core.Path.{_≡_, sym, _∙_, subst}
+-- `chains::chains` meets its promise: both sides are refused, or made and written. Assumes nothing.
 use borrow.Author.Needs.{needs}
-use lib.ListN.{length}
-use Rattle.samples.specs.Tests.{tested-of, sample-tests}
-use Rattle.samples.specs.declared.tests.Tested.{Tested}
-use Rattle.samples.specs.declared.tests.Tested.the-variants.{Passed}
-use Rattle.chains.specs.declared.sides.Sides.{Sides}
-use Rattle.chains.specs.BothSides.{SidesSay, BothAre, sides-ask}
+use Rattle.chains.specs.BothSides.{SidesMade, refused-as, made-as}
 use Rattle.chains.proofs.Answers.{refused-early, answered}
 use Rattle.chains.proofs.chains.Statement.{statement}
 use Rattle.chains.proofs.chains.Tie as tie
 
--- the places that follow one another in the code, each from the next: the samples are tested, the tests are passed, both sides are made, their counts are bound
-abbrev start : tie.After-of-samples → tie.Start
-start c = c .before .before .before .before
-
-abbrev tested : tie.After-enum-told → tie.After-of-samples
-tested c = c .before .before
-
-abbrev admitted : tie.After-sides-of → tie.After-enum-told
-admitted c = c .before .before
+-- the places that follow one another in the code, each from the next: both sides are made, their counts are bound, they are written
+abbrev start : tie.After-sides-of → tie.Start
+start c = c .before .before .before .before .before
 
 abbrev sides-made : tie.After-u → tie.After-sides-of
 sides-made c = c .before .before .before .before
@@ -27,52 +15,24 @@ sides-made c = c .before .before .before .before
 abbrev counts-bound : tie.After-both → tie.After-u
 counts-bound c = c .before .before .before .before .before
 
--- what the tests say
-tests-said : (c : tie.After-of-samples) (t : Tested) → c .of-samples .result ≡ t → let a = start c .args in
-    tested-of (sample-tests (a .east .now) (a .north .now) (length (a .scratch .now))) ≡ t
-tests-said c t e = sym (c .of-samples .ensures) ∙ e
-
 returns : tie.Need-returns
 returns c =
-    let d = c .before .before .before in
-    let a = start d .args in
-    refused-early (a .east .now) (a .north .now) (a .upper .now) (a .lower .now) (a .scratch .now) (tests-said d _ (c .before .number .given .1))
-
--- where they are passed
-passed : (c : tie.After-enum-told) → let a = start (tested c) .args in
-    tested-of (sample-tests (a .east .now) (a .north .now) (length (a .scratch .now))) ≡ Passed
-passed c = tests-said (tested c) Passed (c .enum-told .given .1)
-
-sides-of-requires : tie.Need-sides-of-requires
-sides-of-requires c κs =
     let d = c .before in
-    let a = start (tested d) .args in
-    sides-ask (a .east .now) (a .north .now) (a .scratch .now) (passed d)
+    let s = d .before .before .before .before in
+    let a = start s .args in
+    refused-early (a .east .now) (a .north .now) (a .upper .now) (a .lower .now) (a .scratch .now) (refused-as (d .number .given .1) (s .sides-of .ensures))
 
--- what is said of both sides
-sides-said : (c : tie.After-sides-of) (r : Sides) → c .sides-of .result ≡ r → let a = start (tested (admitted c)) .args in
-    SidesSay (a .east .now) (a .north .now) r (c .sides-of .last .1 .1 .0)
-sides-said c r e =
-    let a = start (tested (admitted c)) .args in
-    subst (λ (r : Sides). SidesSay (a .east .now) (a .north .now) r (c .sides-of .last .1 .1 .0)) e (c .sides-of .ensures)
+both-made : (c : tie.After-u) → let a = start (sides-made c) .args in
+    SidesMade (a .east .now) (a .north .now) (a .scratch .now) (c .u .given .0 .0) (c .u .given .0 .1 .0) (sides-made c .sides-of .last .1 .1 .0)
+both-made c = made-as (c .u .given .1) (sides-made c .sides-of .ensures)
 
 returns-2 : tie.Need-returns-2
 returns-2 c =
-    let d = c .before .before .before .before in
-    absurd (sides-said (d .before .before .before .before) _ (d .enum-told2 .given .1))
-
-both-are : (c : tie.After-u) → let a = start (tested (admitted (sides-made c))) .args in
-    BothAre (a .east .now) (a .north .now) (c .u .given .0 .0) (c .u .given .0 .1 .0) (sides-made c .sides-of .last .1 .1 .0)
-both-are c = sides-said (sides-made c) _ (c .u .given .1)
-
-returns-3 : tie.Need-returns-3
-returns-3 c =
     let w = c .before .before .before .before .before .before in
     let u = counts-bound w in
     let s = sides-made u in
-    let d = admitted s in
-    let a = start (tested d) .args in
-    answered (a .east .now) (a .north .now) (a .upper .now) (a .lower .now) (a .scratch .now) (passed d) (both-are u) (s .sides-of .kept .1 .1 .0) (w .both .ensures)
+    let a = start s .args in
+    answered (a .east .now) (a .north .now) (a .upper .now) (a .lower .now) (a .scratch .now) (both-made u) (s .sides-of .kept .1 .1 .0) (w .both .ensures)
 
 pub chains-spec : {M : Type 1} → statement M
 chains-spec =
@@ -81,15 +41,10 @@ chains-spec =
     (λ c κs. search needs)
     (λ c. search needs)
     (λ c. search needs)
-    sides-of-requires
+    (λ c κs. both-made (c .before .before .before .before) .both .inside)
     (λ c. search needs)
-    (λ c κs. search needs)
-    (λ c. search needs)
-    (λ c κs. both-are (c .before .before .before .before) .inside)
     returns
     (λ c. search needs)
-    returns-2
     (λ c. search needs)
     (λ c. search needs)
-    (λ c. search needs)
-    returns-3)
+    returns-2)

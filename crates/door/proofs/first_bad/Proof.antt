@@ -1,7 +1,7 @@
 -- `door::first_bad` meets its contract. The loop's invariant: an answer that is right of the readings from i on is right of them all.
 -- The measure is what is left of the length. Assumes nothing.
 use mathlib.Core.Path.{_≡_, sym, ap, _∙_}
-use Prim.Native.Nat.{_-_, _≤_, _<_}
+use Prim.Native.Nat.{ℕ, _-_, _≤_, _<_}
 use native.Mathlib.Omega.{arith}
 use lib.ListN.{length}
 use denote.Ref.{now}
@@ -27,14 +27,18 @@ loop-holds c = (omega arith, λ r right. right)
 reading-at-requires : tie.Need-reading-at-requires Inv-loop μ-loop
 reading-at-requires c κs = omega arith
 
+-- what a reading at a place is refused with, if it is
+abbrev refused-by : Reading → ℕ → ReadingsAnswer
+refused-by r place = first-refusal (refusal-of (part (r .east)) place) (refusal-of (part (r .north)) place)
+
 found-is : (c : tie.After-refusal-at Inv-loop μ-loop) →
     c .refusal-at .result
     ≡ found-at (now (c .before .before .before .before .before .before .args .es)) (now (c .before .before .before .before .before .before .args .ns))
     (c .before .before .before .loop .i)
 found-is c =
     let i = c .before .before .before .loop .i in
-    c .refusal-at .ensures
-    ∙ ap (λ (r : Reading). first-refusal (refusal-of (part (r .east)) i) (refusal-of (part (r .north)) i)) (c .before .reading-at .ensures)
+    let said : c .refusal-at .result ≡ refused-by (c .before .reading-at .result) i = c .refusal-at .ensures in
+    said ∙ ap (λ (r : Reading). refused-by r i) (c .before .reading-at .ensures)
 
 returns : tie.Need-returns Inv-loop μ-loop
 returns c =
