@@ -11,7 +11,7 @@ use Rattle.rules.specs.Bridge.{Bridge, ends, spans}
 use Rattle.rules.specs.Refusals.{Answer, refused, done, Test, test, scratch-after}
 use Rattle.rules.specs.Entries.{bridge-answer}
 use Rattle.samples.specs.Positions.{Sampled, Listed, at}
-use Rattle.samples.specs.Tests.{sample-tests}
+use Rattle.samples.specs.Tests.{room-tests}
 use Rattle.bridge.specs.declared.BridgeAnswer.{BridgeAnswer}
 use Rattle.bridge.specs.declared.BridgeAnswer.the-variants.{Found, Refused}
 
@@ -34,4 +34,4 @@ pub record BridgePromise (es ns : List ℤ) (a : ℤ) (scratch : List ℕ) (r : 
 
 -- the tests, with so many words of scratch
 abbrev pub bridge-tests : List ℤ → List ℤ → ℤ → ℕ → List Test
-bridge-tests es ns a room = sample-tests es ns room ++ (test 6 0 (not (spans a (streams es ns))) ∷ [])
+bridge-tests es ns a room = room-tests es ns room ++ (test 6 0 (not (spans a (streams es ns))) ∷ [])

@@ -32,7 +32,7 @@ use Rattle.step.specs.FirstList.{first-chainable, first-chain, end-is}
 use Rattle.step.specs.declared.Stepped.{Stepped}
 use Rattle.step.specs.declared.Stepped.the-variants.{Chain, NoBridge}
 use Rattle.laws_outline.specs.Numbers.{lower-mirrored}
-use Rattle.samples.specs.Tests.{tested-of, sample-tests, then-tested, tested-by, passed-by, passed-tests, sampled-few, quiet-scratch}
+use Rattle.samples.specs.Tests.{tested-of, room-tests, then-tested, tested-by, passed-by, passed-tests, sampled-few, quiet-scratch}
 use Rattle.samples.specs.declared.tests.Tested.{Tested}
 use Rattle.samples.specs.declared.tests.Tested.the-variants.{Passed, Refused}
 use Rattle.chains.specs.BothSides.{side-numbers, SideAsks, SideIs, SideSays, BothAre, SidesRefused}
@@ -148,7 +148,7 @@ then-passed (Refused number place) = refl
 module _ (es ns : List ℤ) (w : List ℕ) where
   -- 1, 2, 3, 4
   abbrev tests : List Test
-  tests = sample-tests es ns (length w)
+  tests = room-tests es ns (length w)
 
   -- what they say is what all say, since 18 is never given
   pub tested-all : {t : Tested} → tested-of tests ≡ t → tested-of (entries.sample-tests es ns w) ≡ t
@@ -165,8 +165,8 @@ pub record Admitted (es ns : List ℤ) (w : List ℕ) : Type 0 where
   pub few : length es ≤ most
   pub room : 16 * length es + 64 ≤ length w
 
-pub admitted : (es ns : List ℤ) (w : List ℕ) → tested-of (sample-tests es ns (length w)) ≡ Passed → Admitted es ns w
+pub admitted : (es ns : List ℤ) (w : List ℕ) → tested-of (room-tests es ns (length w)) ≡ Passed → Admitted es ns w
 admitted es ns w e =
-    let n = passed-tests (sample-tests es ns (length w)) e in
+    let n = passed-tests (room-tests es ns (length w)) e in
     let s = sampled-few es ns (test 4 0 (ltb (length w) (16 * length es + 64)) ∷ []) n in
     record { sampled = s .0; few = s .1; room = ltb-false (length w) (16 * length es + 64) (n .1 .1 .1 .0) }

@@ -22,8 +22,8 @@ tested-of [] = Passed
 tested-of (t ∷ ts) = cond (t .holds) (Refused (t .number) (t .place)) (tested-of ts)
 
 -- the tests of samples with so many words of scratch: 1, 2, 3, 4
-abbrev pub sample-tests : List ℤ → List ℤ → ℕ → List Test
-sample-tests es ns room = ring-tests es ns ++ (test 4 0 (ltb room (16 * length es + 64)) ∷ [])
+abbrev pub room-tests : List ℤ → List ℤ → ℕ → List Test
+room-tests es ns room = ring-tests es ns ++ (test 4 0 (ltb room (16 * length es + 64)) ∷ [])
 
 -- ---- all of them
 

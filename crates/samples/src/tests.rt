@@ -8,7 +8,7 @@ ghost use Rattle.rules.specs.Lists.{first-place};
 ghost use Rattle.rules.specs.Streams.{beyond, streams};
 ghost use Rattle.rules.specs.Refusals.{ring-tests};
 ghost use Rattle.samples.specs.Positions.{Listed, east-of, easts-span};
-ghost use Rattle.samples.specs.Tests.{tested-of, sample-tests};
+ghost use Rattle.samples.specs.Tests.{tested-of, room-tests};
 use super::streams::east;
 use super::streams::part_beyond;
 
@@ -65,7 +65,7 @@ pub fn of_lists(e: &[i32], n: &[i32]) -> Tested
 
 // The tests of samples, with so many words of scratch: 1, 2, 3, 4.
 pub fn of_samples(e: &[i32], n: &[i32], room: usize) -> Tested
-    ensures { λ r. ⌜ r ≡ tested-of (sample-tests (now (e .entry)) (now (n .entry)) room) ⌝ }
+    ensures { λ r. ⌜ r ≡ tested-of (room-tests (now (e .entry)) (now (n .entry)) room) ⌝ }
 {
     match of_lists(e, n) {
         Tested::Refused { number, place } => Tested::Refused { number, place },

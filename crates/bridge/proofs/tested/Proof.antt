@@ -15,7 +15,7 @@ use Rattle.samples.specs.declared.tests.Tested.{Tested}
 use Rattle.samples.specs.declared.tests.Tested.the-variants.{Passed, Refused}
 use Rattle.samples.specs.Positions.{easts-span}
 use Rattle.samples.specs.Samples.{samples-span}
-use Rattle.samples.specs.Tests.{tested-of, sample-tests, then-tested, tested-by, passed-tests}
+use Rattle.samples.specs.Tests.{tested-of, room-tests, then-tested, tested-by, passed-tests}
 use Rattle.bridge.specs.Promise.{bridge-tests}
 use Rattle.bridge.proofs.tested.Statement.{statement}
 use Rattle.bridge.proofs.tested.Tie as tie
@@ -30,7 +30,7 @@ after : (c : tie.After-of-samples) {r : Tested} → c .of-samples .result ≡ r
 after c e =
     let a = c .before .args in
     let spanned = spans (a .a) (streams (a .east .now) (a .north .now)) in
-    tested-by (sample-tests (a .east .now) (a .north .now) (a .room)) (test 6 0 (not spanned) ∷ []) (sym (c .of-samples .ensures) ∙ e)
+    tested-by (room-tests (a .east .now) (a .north .now) (a .room)) (test 6 0 (not spanned) ∷ []) (sym (c .of-samples .ensures) ∙ e)
 
 -- where the tests of samples are passed, the easts decide
 module _ (c : tie.After-spans) where
@@ -45,7 +45,7 @@ module _ (c : tie.After-spans) where
 
   even : length es ≡ length ns
   even =
-      let n = passed-tests (sample-tests es ns (start .args .room)) (sym (c .before .before .before .of-samples .ensures) ∙ c .before .enum-told .given .1) in
+      let n = passed-tests (room-tests es ns (start .args .room)) (sym (c .before .before .before .of-samples .ensures) ∙ c .before .enum-told .given .1) in
       eqb-true (length es) (length ns) (not-false (eqb (length es) (length ns)) (n .0))
 
   spans-said : spans (start .args .a) (streams es ns) ≡ c .spans .result

@@ -7,7 +7,7 @@ use native.Mathlib.Omega.{arith}
 use borrow.Author.Needs.{needs}
 use borrow.Rule.Slice.PartMut.{mid-len}
 use lib.ListN.{length}
-use Rattle.samples.specs.Tests.{tested-of, sample-tests}
+use Rattle.samples.specs.Tests.{tested-of, room-tests}
 use Rattle.samples.specs.declared.tests.Tested.{Tested}
 use Rattle.samples.specs.declared.tests.Tested.the-variants.{Passed}
 use Rattle.step.specs.declared.Stepped.{Stepped}
@@ -42,7 +42,7 @@ given c = start (tested (passed c))
 
 -- what the tests say
 tests-said : (c : tie.After-of-samples) (t : Tested) → c .of-samples .result ≡ t → let a = start c .args in
-    tested-of (sample-tests (a .e .now) (a .n .now) (length (a .scratch .now))) ≡ t
+    tested-of (room-tests (a .e .now) (a .n .now) (length (a .scratch .now))) ≡ t
 tests-said c t e = sym (c .of-samples .ensures) ∙ e
 
 returns : tie.Need-returns
@@ -52,7 +52,7 @@ returns c =
     sides-refused (a .e .now) (a .n .now) (a .scratch .now) (tests-said d _ (c .before .number .given .1))
 
 tests-passed : (c : tie.After-enum-told) → let a = start (tested c) .args in
-    tested-of (sample-tests (a .e .now) (a .n .now) (length (a .scratch .now))) ≡ Passed
+    tested-of (room-tests (a .e .now) (a .n .now) (length (a .scratch .now))) ≡ Passed
 tests-passed c = tests-said (tested c) Passed (c .enum-told .given .1)
 
 let-in : (c : tie.After-enum-told) → let a = start (tested c) .args in Admitted (a .e .now) (a .n .now) (a .scratch .now)

@@ -12,7 +12,7 @@ use Rattle.rules.specs.Streams.{most}
 use Rattle.rules.specs.Refusals.{test, ring-tests}
 use Rattle.samples.specs.declared.tests.Tested.{Tested}
 use Rattle.samples.specs.declared.tests.Tested.the-variants.{Passed, Refused}
-use Rattle.samples.specs.Tests.{tested-of, sample-tests, then-tested, tested-by, passed-tests, sampled-few}
+use Rattle.samples.specs.Tests.{tested-of, room-tests, then-tested, tested-by, passed-tests, sampled-few}
 use Rattle.samples.proofs.tests.of_samples.Statement.{statement}
 use Rattle.samples.proofs.tests.of_samples.Tie as tie
 
@@ -21,7 +21,7 @@ abbrev four : Bool → Tested
 four b = cond b (Refused 4 0) Passed
 
 after : (c : tie.After-of-lists) {t : Tested} → c .of-lists .result ≡ t → let a = c .before .args in
-    tested-of (sample-tests (a .e .now) (a .n .now) (a .room)) ≡ then-tested t (four (ltb (a .room) (16 * length (a .e .now) + 64)))
+    tested-of (room-tests (a .e .now) (a .n .now) (a .room)) ≡ then-tested t (four (ltb (a .room) (16 * length (a .e .now) + 64)))
 after c e =
     let a = c .before .args in
     tested-by (ring-tests (a .e .now) (a .n .now)) (test 4 0 (ltb (a .room) (16 * length (a .e .now) + 64)) ∷ []) (sym (c .of-lists .ensures) ∙ e)
