@@ -9,14 +9,14 @@ use lib.IntN.{ℤ, pos, natAbs, negℤ, _+ℤ_, _-ℤ_}
 use lib.Signed.{_≤ℤ_, _<ℤ_, ltZ}
 use Rattle.whole.specs.Linear.{order, sum, difference, negation}
 use Rattle.whole.specs.Laws.{lt-test, nlt-test, <ℤ→≤ℤ, ≤ℤ-of-≡, ≡→0≡}
-use Rattle.whole.specs.Solver.{var, num, _⊕_, _⊖_, ⊝_}
+use Rattle.whole.specs.Solver.{num, _⊕_, _⊖_, ⊝_}
 use Rattle.whole.specs.Fits.{value-within, at-most, at-least}
 use Rattle.rules.specs.Streams.{Stream}
 use Rattle.rules.specs.Round.{Slope, slope}
 use Rattle.slopes.specs.Fractions.{fraction}
 use Rattle.samples.specs.Positions.{Near}
 use Rattle.round.specs.Slopes.{PairSlope}
-use Rattle.round.proofs.RoundWords.{two-leaves, natural}
+use Rattle.round.proofs.RoundWords.{two-leaves, way, climb, natural}
 
 -- a slope from its words: x is the rise plus 2,000,000, y the run
 has-slope : (x y : ℤ) (k : Slope) → pos 0 ≤ℤ x → pos 0 <ℤ y → k .rise ≡ x -ℤ pos 2000000 → k .run ≡ y
@@ -54,8 +54,8 @@ module _ {p q : Stream} (hp : Near p) (hq : Near q) where
   pub slope-west : q .east <ℤ p .east → PairSlope p q (natAbs (pos 2000000 -ℤ rise)) (natAbs (negℤ (q .east -ℤ p .east)))
   slope-west h =
       record {
-        rise-high = value-within (two-leaves hp hq) (num (pos 2000000) ⊖ (var 3 ⊖ var 1)) .within;
-        run-high = value-within (two-leaves hp hq) (⊝ (var 2 ⊖ var 0)) .within;
+        rise-high = value-within (two-leaves hp hq) (num (pos 2000000) ⊖ climb) .within;
+        run-high = value-within (two-leaves hp hq) (⊝ way) .within;
         is =
             ap₂ (λ (b c : Bool). cond b (some (slope p q)) (cond c (some (slope q p)) none)) (nlt-test (<ℤ→≤ℤ h)) (lt-test h)
             ∙ has-slope (pos 2000000 -ℤ rise) (negℤ (q .east -ℤ p .east)) (slope q p) up-to-first
@@ -70,8 +70,8 @@ module _ {p q : Stream} (hp : Near p) (hq : Near q) where
   pub slope-east : p .east <ℤ q .east → PairSlope p q (natAbs (pos 2000000 +ℤ rise)) (natAbs (q .east -ℤ p .east))
   slope-east h =
       record {
-        rise-high = value-within (two-leaves hp hq) (num (pos 2000000) ⊕ (var 3 ⊖ var 1)) .within;
-        run-high = value-within (two-leaves hp hq) (var 2 ⊖ var 0) .within;
+        rise-high = value-within (two-leaves hp hq) (num (pos 2000000) ⊕ climb) .within;
+        run-high = value-within (two-leaves hp hq) way .within;
         is =
             ap (λ (b : Bool). cond b (some (slope p q)) (cond (ltZ (q .east) (p .east)) (some (slope q p)) none)) (lt-test h)
             ∙ has-slope (pos 2000000 +ℤ rise) (q .east -ℤ p .east) (slope p q) up-to-second
@@ -83,8 +83,8 @@ module _ {p q : Stream} (hp : Near p) (hq : Near q) where
   pub no-slope : p .east ≡ q .east → PairSlope p q (natAbs (pos 2000000 +ℤ rise)) (natAbs (q .east -ℤ p .east))
   no-slope h =
       record {
-        rise-high = value-within (two-leaves hp hq) (num (pos 2000000) ⊕ (var 3 ⊖ var 1)) .within;
-        run-high = value-within (two-leaves hp hq) (var 2 ⊖ var 0) .within;
+        rise-high = value-within (two-leaves hp hq) (num (pos 2000000) ⊕ climb) .within;
+        run-high = value-within (two-leaves hp hq) way .within;
         is =
             ap₂ (λ (b c : Bool). cond b (some (slope p q)) (cond c (some (slope q p)) none)) (nlt-test (≤ℤ-of-≡ (sym h))) (nlt-test (≤ℤ-of-≡ h))
             ∙ sym

@@ -6,17 +6,18 @@ use Prim.Native.Nat.{ℕ, _^_, _<_}
 use native.Mathlib.Nat.{lt-of-le-of-lt}
 use borrow.Author.Needs.{sfits-of}
 use lib.Dec.{T, ltb, ltb→lt}
-use lib.IntN.{ℤ, pos, negsuc, natAbs, _-ℤ_}
+use lib.IntN.{ℤ, pos, negsuc, natAbs}
 use lib.Signed.{mag, nonNeg, _≤ℤ_}
 use mir.Syntax.{w32, w64}
 use mir.Val.{Fits, toZ, ofZ}
 use mir.Facts.{toZ-ofZ}
 use Rattle.whole.specs.Solver.{Ex, var, num, _⊖_, _⊗_, eval}
-use Rattle.whole.specs.Fits.{Within, Held, Leaves, Bounded, []ʷ, _∷ʷ_, _∷ᶜ_, read, read-within, value-within, bound, safe, word, word-is, word-within}
+use Rattle.whole.specs.Fits.{Within, Leaves, Bounded, []ʷ, _∷ʷ_, _∷ᶜ_, read, read-within, value-within, bound, safe, word, word-is, word-within}
 use Rattle.rules.specs.Streams.{Stream}
 use Rattle.rules.specs.Round.{Slope}
 use Rattle.slopes.specs.Fractions as fractions
 use Rattle.samples.specs.Positions.{Near}
+use Rattle.samples.specs.StreamWords.{held}
 use Rattle.round.specs.Tops.{spread, slope-by, scaled, Scaled}
 
 -- a number that fits 64 bits is what its word is read as
@@ -58,17 +59,20 @@ way = var 2 ⊖ var 0
 abbrev pub climb : Ex
 climb = var 3 ⊖ var 1
 
--- what a word of 32 bits holds of an expression is its value, within its bound
-word-held : {σ ρ : List ℤ} {βs : List ℕ} → Leaves σ ρ βs → (e : Ex) → T (safe w32 βs e) → Held (word w32 σ e) (eval ρ e) (bound βs e)
-word-held l e t = record { same = word-is w32 l e t; near = value-within l e }
-
--- the climb, K's run, K's rise and the way, each from a word of 32 bits
+-- both, and K's run and rise, each read from a word of 32 bits
 pub excess-leaves : {p q : Stream} {K : Slope} → Near p × (Near q × fractions.Near K)
-    → Leaves (word w32 (parts p q) climb ∷ read w32 (K .run) ∷ read w32 (K .rise) ∷ word w32 (parts p q) way ∷ [])
-    ((q .north -ℤ p .north) ∷ K .run ∷ K .rise ∷ (q .east -ℤ p .east) ∷ [])
-    (2000000 ∷ 2000000 ∷ 2000000 ∷ 2000000 ∷ [])
+    → Leaves
+    (read w32 (p .east) ∷ read w32 (p .north) ∷ read w32 (q .east) ∷ read w32 (q .north) ∷ read w32 (K .run) ∷ read w32 (K .rise) ∷ [])
+    (p .east ∷ p .north ∷ q .east ∷ q .north ∷ K .run ∷ K .rise ∷ [])
+    (1000000 ∷ 1000000 ∷ 1000000 ∷ 1000000 ∷ 2000000 ∷ 2000000 ∷ [])
 excess-leaves (h, (j, k)) =
-    word-held (two-leaves h j) climb tt ∷ᶜ read-within w32 (k .run-near) tt ∷ᶜ read-within w32 (k .rise-near) tt ∷ᶜ word-held (two-leaves h j) way tt ∷ᶜ []ʷ
+    held (h .east-near)
+    ∷ᶜ held (h .north-near)
+    ∷ᶜ held (j .east-near)
+    ∷ᶜ held (j .north-near)
+    ∷ᶜ read-within w32 (k .run-near) tt
+    ∷ᶜ read-within w32 (k .rise-near) tt
+    ∷ᶜ []ʷ
 
 -- ---- a number that is not below 0, cast to an unsigned word
 

@@ -22,7 +22,8 @@ fn excess(p: Stream, q: Stream, k: Slope) -> i64
     requires { ⌜ Near (stream-of p) × (Near (stream-of q) × fractions.Near (as-slope k)) ⌝ }
     ensures { λ r. ⌜ r ≡ excess (as-slope k) (stream-of p) (stream-of q) ⌝ }
 {
-    ((q.north - p.north) as i64) * (k.run as i64) - (k.rise as i64) * ((q.east - p.east) as i64)
+    (q.north as i64 - p.north as i64) * (k.run as i64)
+        - (k.rise as i64) * (q.east as i64 - p.east as i64)
 }
 
 // What a pair keeps where the tops lie west, all at most a, or else all above a.
@@ -33,19 +34,13 @@ fn of_pair(e: &[i32], n: &[i32], lower: bool, x: u32, y: u32, k: Slope, west: bo
     let p = position_of(e, n, x, lower);
     let q = position_of(e, n, y, lower);
     let c = excess(p, q, k);
-    let d = q.east - p.east;
-    if d != 0 {
-        // how far the second stands beyond the first, seen from the tops
-        let g = if west { d } else { -d };
-        return Keeps {
-            first: (g < 0) | (c < 0),
-            second: (0 < g) | (0 < c),
-        };
-    }
-    let up = p.north < q.north;
+    let d = q.east as i64 - p.east as i64;
+    // how far the second stands beyond the first, seen from the tops
+    let g = if west { d } else { -d };
+    // of two at one east the excess tells the higher, and of two at one position the first is kept
     Keeps {
-        first: !up,
-        second: up,
+        first: (g < 0) | (c < 0) | ((g == 0) & (c == 0)),
+        second: (0 < g) | (0 < c),
     }
 }
 

@@ -1,4 +1,4 @@
--- What the code computes with: each part of a near stream is read from a word of 32 bits as it is, and is within the limit.
+-- What the code computes with: each part of a near stream is read from a word of 32 bits as it is, and is within the limit; words compared.
 -- Assumes nothing.
 use mathlib.Core.Path.{_≡_, refl, sym, ap, _∙_}
 use mathlib.Core.Bool.{Bool, true, false}
@@ -7,10 +7,9 @@ use Prim.Native.Nat.{_^_, _<_}
 use lib.Dec.{eqb}
 use lib.IntN.{ℤ}
 use lib.Signed.{mag}
-use borrow.Author.Needs.{sfits-of}
 use borrow.Author.Tests.{eqb-true, eqb-false}
-use mir.Syntax.{w32}
-use mir.Val.{SFits, toZ, ofZ}
+use mir.Syntax.{Width, w32}
+use mir.Val.{SFits, toZ, ofZ, hbits}
 use mir.Facts.{toZ-ofZ}
 use Rattle.whole.specs.Laws.{eqZ, eq-test, ne-test}
 use Rattle.whole.specs.Fits as fits
@@ -27,13 +26,13 @@ near-fits h = fits.within-fits w32 h tt
 pub held : {z : ℤ} → Within z limit → Held (read z) z limit
 held h = fits.read-within w32 h tt
 
--- the words of two parts are equal exactly if the parts are
-pub words-equal : (y z : ℤ) → mag y < 2 ^ 31 → mag z < 2 ^ 31 → eqb (ofZ w32 y) (ofZ w32 z) ≡ eqZ y z
-words-equal y z h k = go (eqb (ofZ w32 y) (ofZ w32 z)) refl
+-- two words are equal exactly if their numbers are
+pub words-equal : (w : Width) (y z : ℤ) → mag y < 2 ^ hbits w → mag z < 2 ^ hbits w → eqb (ofZ w y) (ofZ w z) ≡ eqZ y z
+words-equal w y z h k = go (eqb (ofZ w y) (ofZ w z)) refl
   where
-    go : (b : Bool) → eqb (ofZ w32 y) (ofZ w32 z) ≡ b → b ≡ eqZ y z
-    go true e = sym (eq-test {a = y} {b = z} (sym (toZ-ofZ (sfits-of h)) ∙ ap (toZ w32) (eqb-true (ofZ w32 y) (ofZ w32 z) e) ∙ toZ-ofZ (sfits-of k)))
-    go false e = sym (ne-test {a = y} {b = z} (λ q. eqb-false (ofZ w32 y) (ofZ w32 z) e (ap (ofZ w32) q)))
+    go : (b : Bool) → eqb (ofZ w y) (ofZ w z) ≡ b → b ≡ eqZ y z
+    go true e = sym (eq-test {a = y} {b = z} (sym (toZ-ofZ (record { sfits = h })) ∙ ap (toZ w) (eqb-true (ofZ w y) (ofZ w z) e) ∙ toZ-ofZ (record { sfits = k })))
+    go false e = sym (ne-test {a = y} {b = z} (λ q. eqb-false (ofZ w y) (ofZ w z) e (ap (ofZ w) q)))
 
 -- the parts of two streams, and of three, as the leaves of an expression
 pub two-near : {p q : Stream} → Near p × Near q →

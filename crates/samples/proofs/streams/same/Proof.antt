@@ -22,11 +22,11 @@ module _ (c : tie.After-struct-told2) where
 
   easts : eqb (ofZ w32 (p .east)) (ofZ w32 (q .east)) ≡ eqZ (p .east) (q .east)
   unfolding p q
-  easts = words-equal (p .east) (q .east) (c .before .before .struct-told .given .0 .1) (c .struct-told2 .given .0 .1)
+  easts = words-equal w32 (p .east) (q .east) (c .before .before .struct-told .given .0 .1) (c .struct-told2 .given .0 .1)
 
   norths : eqb (ofZ w32 (p .north)) (ofZ w32 (q .north)) ≡ eqZ (p .north) (q .north)
   unfolding p q
-  norths = words-equal (p .north) (q .north) (c .before .before .struct-told .given .1 .0 .1) (c .struct-told2 .given .1 .0 .1)
+  norths = words-equal w32 (p .north) (q .north) (c .before .before .struct-told .given .1 .0 .1) (c .struct-told2 .given .1 .0 .1)
 
 returns : tie.Need-returns
 unfolding same p q
