@@ -199,7 +199,8 @@ typedef struct {
 } nuoskelma_cover_told;
 
 /*
- * Covered is 1 exactly if the ring has three corners or more and the stream (x, y) lies strictly inside every edge, and 0 otherwise.
+ * Covered is 1 exactly if the stream (x, y) is a weighted mean of the corners, by weights that are whole numbers, none below 0 and not all 0, and 0 otherwise.
+ * So the inside and the whole outline are covered; of two corners the segment between them, of one corner its position, of an empty ring nothing.
  * Refused: 1, 2, 3 (the ring, then the stream with place 0) and 9, as for the strongest set.
  */
 nuoskelma_cover_told nuoskelma_cover(const int32_t *east, size_t east_len, const int32_t *north, size_t north_len, int32_t x, int32_t y);

@@ -229,7 +229,7 @@ impl Envelope {
         crate::strongest(&self.easts, &self.norths, x, y)
     }
 
-    /// Does the stream (x, y) lie strictly inside every edge of three or more? See [`cover`](crate::cover).
+    /// Is the stream (x, y) a weighted mean of the corners, inside the outline or on it? See [`cover`](crate::cover).
     ///
     /// # Errors
     /// 3, a part of the stream beyond the limit.
@@ -237,7 +237,9 @@ impl Envelope {
     /// ```
     /// let envelope = nuoskelma::Envelope::of(&[0, 2, 4, 4, 0], &[3, 5, 3, 0, 0])?;
     /// assert_eq!(envelope.covers(2, 1), Ok(true));
-    /// assert_eq!(envelope.covers(2, 0), Ok(false));
+    /// assert_eq!(envelope.covers(-1, 1), Ok(false));
+    /// // what was measured is covered: each corner is
+    /// assert!(envelope.corners().all(|(east, north)| envelope.covers(east, north) == Ok(true)));
     /// # Ok::<(), nuoskelma::Refusal>(())
     /// ```
     pub fn covers(&self, x: i32, y: i32) -> Result<bool, Refusal> {

@@ -14,9 +14,9 @@
 //! let envelope = samples.envelope()?;
 //! assert!(envelope.corners().eq([(0, 3), (2, 5), (4, 3), (4, 0), (0, 0)]));
 //!
-//! // the strongest set on the course (-1, 1), and whether the stream (2, 1) lies inside
+//! // the strongest set on the course (-1, 1), and whether streams lie inside or on the outline
 //! assert_eq!(envelope.strongest(-1, 1)?.set, 3);
-//! assert!(envelope.covers(2, 1)?);
+//! assert!(envelope.covers(2, 1)? && envelope.covers(0, 1)? && !envelope.covers(-1, 1)?);
 //!
 //! // joined with that of two more samples
 //! let wider = envelope.join(&Envelope::of(&[6, 6], &[2, 1])?)?;
@@ -38,7 +38,7 @@
 //! assert_eq!((easts, norths), (&[0, 2, 4, 4, 0][..], &[3, 5, 3, 0, 0][..]));
 //!
 //! assert_eq!(strongest(easts, norths, -1, 1)?.set, 3);
-//! assert!(cover(easts, norths, 2, 1)?);
+//! assert!(cover(easts, norths, 2, 1)? && cover(easts, norths, 0, 1)?);
 //! # Ok::<(), nuoskelma::Refusal>(())
 //! ```
 #![deny(missing_docs, unsafe_code)]

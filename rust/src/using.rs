@@ -80,7 +80,9 @@ pub fn strongest(east: &[i32], north: &[i32], x: i32, y: i32) -> Result<Stronges
     unless_refused(r.number, r.place, StrongestSet { set: r.set, place: r.at })
 }
 
-/// Cover test: yes exactly if the ring has three corners or more and the stream (x, y) lies strictly inside every edge.
+/// Cover test: yes exactly if the stream (x, y) is a weighted mean of the corners, by weights that are whole numbers, none below 0 and not all 0.
+///
+/// So the inside and the whole outline are covered; of two corners the segment between them, of one corner its position, of an empty ring nothing.
 ///
 /// # Errors
 /// 1, the two lists differ in length; 2, over 65,536 corners; 3, a part beyond the limit, with the first place for the ring, then 0 for the stream; 9, not an
@@ -91,7 +93,13 @@ pub fn strongest(east: &[i32], north: &[i32], x: i32, y: i32) -> Result<Stronges
 ///
 /// let (east, north) = ([0, 2, 4, 4, 0], [3, 5, 3, 0, 0]);
 /// assert_eq!(cover(&east, &north, 2, 1), Ok(true));
-/// assert_eq!(cover(&east, &north, 2, 0), Ok(false));
+/// // on an edge, at a corner, and a unit outside
+/// assert_eq!(cover(&east, &north, 0, 1), Ok(true));
+/// assert_eq!(cover(&east, &north, 2, 5), Ok(true));
+/// assert_eq!(cover(&east, &north, -1, 1), Ok(false));
+/// // between two corners, and beyond them
+/// assert_eq!(cover(&[0, 4], &[0, 2], 2, 1), Ok(true));
+/// assert_eq!(cover(&[0, 4], &[0, 2], 6, 3), Ok(false));
 /// ```
 pub fn cover(east: &[i32], north: &[i32], x: i32, y: i32) -> Result<bool, Refusal> {
     let r = face::cover(east, north, x, y);

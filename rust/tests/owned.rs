@@ -106,7 +106,8 @@ fn input_a() {
     assert_eq!((0..6).map(|place| envelope.corner(place)).collect::<Vec<_>>(), [RING.map(Some).as_slice(), &[None]].concat());
     assert_eq!(envelope.strongest(-1, 1), Ok(StrongestSet { set: 3, place: 0 }));
     assert_eq!(envelope.strongest(1, 0), Ok(StrongestSet { set: 4, place: 2 }));
-    assert_eq!((envelope.covers(2, 1), envelope.covers(4, 2), envelope.covers(5, 1)), (Ok(true), Ok(false), Ok(false)));
+    assert_eq!((envelope.covers(2, 1), envelope.covers(4, 2), envelope.covers(5, 1)), (Ok(true), Ok(true), Ok(false)));
+    assert!(samples.iter().all(|(east, north)| envelope.covers(east, north) == Ok(true)));
 
     let joined = Envelope::of(&[2, 2], &[5, 1]).unwrap().join(&Envelope::of(&[0, 4], &[0, 0]).unwrap()).unwrap();
     assert!(joined.corners().eq([(0, 0), (2, 5), (4, 0)]));
@@ -193,6 +194,11 @@ fn laws_of_joining_and_turning_about() {
             assert_eq!(set(&both), both.turned().strongest(-x, -y).unwrap().set);
         }
         assert_eq!(both.covers(x, y), both.turned().covers(-x, -y));
+
+        // a stream is covered exactly if joining it changes nothing, and every sample is
+        let with = both.join(&Envelope::of(&[x], &[y]).unwrap());
+        assert_eq!(both.covers(x, y), Ok(with.as_ref() == Ok(&both)));
+        assert!(s.iter().chain(&t).all(|(east, north)| both.covers(east, north) == Ok(true)));
     }
     assert!(larger > 500, "{larger}");
 }

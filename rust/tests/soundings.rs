@@ -55,10 +55,32 @@ fn p11_p12_strongest_set_and_cover_of_a() {
     assert_eq!(strongest(&RING_EAST, &RING_NORTH, 1, 0), Ok(StrongestSet { set: 4, place: 2 }));
     assert_eq!(cover(&RING_EAST, &RING_NORTH, 2, 1), Ok(true));
     assert_eq!(cover(&RING_EAST, &RING_NORTH, 2, 4), Ok(true));
-    // on the outline, outside, and a ring of two corners
-    assert_eq!(cover(&RING_EAST, &RING_NORTH, 4, 2), Ok(false));
     assert_eq!(cover(&RING_EAST, &RING_NORTH, 5, 1), Ok(false));
-    assert_eq!(cover(&[0, 4], &[0, 0], 2, 0), Ok(false));
+}
+
+/// The streams that a ring covers, of all with parts from -2 to 6.
+fn covered(east: &[i32], north: &[i32]) -> Vec<(i32, i32)> {
+    let all = (-2..=6).flat_map(|x| (-2..=6).map(move |y| (x, y)));
+    all.filter(|&(x, y)| cover(east, north, x, y).unwrap()).collect()
+}
+
+#[test]
+fn the_outline_is_covered() {
+    // A's ring, west to east, from its lower side to its upper
+    let upright = |x: i32, top: i32| (0..=top).map(move |y| (x, y));
+    let inside_and_on = [(0, 3), (1, 4), (2, 5), (3, 4), (4, 3)].into_iter().flat_map(|(x, top)| upright(x, top));
+    assert_eq!(covered(&RING_EAST, &RING_NORTH), inside_and_on.collect::<Vec<_>>());
+    // two corners, slanting, upright and flat; one; none
+    assert_eq!(covered(&[0, 4], &[0, 2]), [(0, 0), (2, 1), (4, 2)]);
+    assert_eq!(covered(&[3, 3], &[4, 1]), [(3, 1), (3, 2), (3, 3), (3, 4)]);
+    assert_eq!(covered(&[1, 3], &[5, 5]), [(1, 5), (2, 5), (3, 5)]);
+    assert_eq!(covered(&[3], &[4]), [(3, 4)]);
+    assert_eq!(covered(&[], &[]), []);
+    // as far as parts go
+    let (east, north) = ([-LIMIT, LIMIT], [-LIMIT, LIMIT]);
+    assert_eq!(cover(&east, &north, LIMIT, LIMIT), Ok(true));
+    assert_eq!(cover(&east, &north, 999_999, 999_999), Ok(true));
+    assert_eq!(cover(&east, &north, 999_999, LIMIT), Ok(false));
 }
 
 #[test]

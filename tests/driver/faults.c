@@ -13,6 +13,8 @@ enum {
     OUTPUT_REFUSED,     /* readings: the first word of an output is altered by a refusal */
     BEYOND_OUTPUT,      /* record: a word behind a list is altered */
     PLACE,              /* cover: the place of refusal 3 is one too small */
+    OUTLINE,            /* cover: no stream on an edge of many is covered */
+    WHOLE_LINE,         /* cover: two corners cover their whole line */
     LIST_PLACE,         /* round: the place of refusal 7 is one too great */
     LENT_INPUT,         /* join: the second ring is altered */
     BACK,               /* readings: the float of refusal 13 is not handed back */
@@ -100,9 +102,22 @@ static nuoskelma_strongest_set faulty_strongest(const int32_t *east, size_t east
 }
 #define nuoskelma_strongest faulty_strongest
 
+/* On the lines of how many edges (x, y) lies. */
+static size_t on_lines(const int32_t *east, const int32_t *north, size_t corners, int32_t x, int32_t y) {
+    size_t on = 0;
+    for (size_t k = 0; k < corners; k++) {
+        size_t next = k + 1 < corners ? k + 1 : 0;
+        int64_t along = (int64_t)east[next] - east[k], across = (int64_t)north[next] - north[k];
+        if (along * ((int64_t)y - north[k]) == across * ((int64_t)x - east[k])) on++;
+    }
+    return on;
+}
+
 static nuoskelma_cover_told faulty_cover(const int32_t *east, size_t east_len, const int32_t *north, size_t north_len, int32_t x, int32_t y) {
     nuoskelma_cover_told r = nuoskelma_cover(east, east_len, north, north_len, x, y);
     if (FAULT == PLACE && r.number == 3 && r.place > 0) r.place--;
+    if (FAULT == OUTLINE && r.number == 0 && east_len > 5 && on_lines(east, north, east_len, x, y) > 0) r.covered = 0;
+    if (FAULT == WHOLE_LINE && r.number == 0 && east_len == 2 && on_lines(east, north, east_len, x, y) == 2) r.covered = 1;
     if (FAULT == NULL_READ && north_len == 0) (void)*(const volatile int32_t *)north;
     if (middle(east_len) && r.number == 0) r.covered ^= 1;
     return r;

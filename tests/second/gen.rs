@@ -1,5 +1,6 @@
 //! Chance that is the same at every run with one seed, and what is made by it: samples of every kind, rings, lists that are almost rings, noise.
 
+use std::collections::BTreeSet;
 use std::sync::OnceLock;
 
 use crate::rules::chain::{at, ring_of, Position};
@@ -508,18 +509,32 @@ pub fn changed(chance: &mut Chance, mut list: Vec<Position>) -> (&'static str, V
     (words, list)
 }
 
+/// Every ring of positions with parts from -1 to 1: of no corner, of one, of two (flat, upright and slanting) and of more.
+pub fn smallest_rings() -> Vec<Vec<Position>> {
+    let nine: Vec<Position> = (-1..=1).flat_map(|east| (-1..=1).map(move |north| at(east, north))).collect();
+    let of = |choice: u32| ring_of(&(0..9).filter(|k| choice >> k & 1 == 1).map(|k| nine[k]).collect::<Vec<_>>());
+    (0..1 << 9).map(of).collect::<BTreeSet<_>>().into_iter().collect()
+}
+
+/// The parts of all corners so many times as great: it stays a ring, with so many steps of one length in every edge.
+pub fn stretched(corners: &[Position], by: i64) -> Vec<Position> {
+    corners.iter().map(|p| at(by * p.east, by * p.north)).collect()
+}
+
+/// The greatest number that divides both; 1 where both are 0.
+pub fn common(a: i64, b: i64) -> i64 {
+    if b == 0 {
+        a.abs().max(1)
+    } else {
+        common(b, a % b)
+    }
+}
+
 /// So many corners has the largest ring below.
 pub const MOST_CORNERS: usize = 55_940;
 
 /// A ring of exactly so many corners, up to MOST_CORNERS: its edges are the shortest of different directions, in the order of their turn.
 pub fn large_ring(corners: usize) -> Vec<Position> {
-    fn common(a: i64, b: i64) -> i64 {
-        if b == 0 {
-            a
-        } else {
-            common(b, a % b)
-        }
-    }
     let mut edges: Vec<(i64, i64)> = Vec::new();
     let mut sum = 1;
     while edges.len() < corners.div_ceil(4) {

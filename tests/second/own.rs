@@ -9,8 +9,9 @@ use std::collections::BTreeSet;
 use std::time::Instant;
 
 use crate::cases;
+use crate::cases::cover::{beside, often_stretched, Lying, LYINGS};
 use crate::driver::fail;
-use crate::gen::{almost_ring, cut, large_ring, ring, samples, Chance, Samples};
+use crate::gen::{almost_ring, cut, large_ring, ring, samples, smallest_rings, stretched, Chance, Samples};
 use crate::rules::chain::{at, bridge, chains_of, lower, ring_of, upper, Position};
 use crate::rules::door::{part, readings};
 use crate::rules::program::program;
@@ -29,7 +30,7 @@ fn agree<T: PartialEq + std::fmt::Debug>(rules: T, other: T, about: impl Fn() ->
 
 type Check = fn() -> u64;
 
-const CHECKS: [(&str, Check); 16] = [
+const CHECKS: [(&str, Check); 17] = [
     ("soundings, one by one", soundings::check),
     ("refusals, taken away one by one", refusals::check),
     ("ranks by counting", ranks),
@@ -41,7 +42,8 @@ const CHECKS: [(&str, Check); 16] = [
     ("rings by all triangles", rings),
     ("envelopes by their sides", envelopes),
     ("strongest sets by all corners", strongest_sets),
-    ("covers by all lines through the stream", covers),
+    ("covers by all triangles of corners", covers),
+    ("covers by all small weights", covers_by_weights),
     ("joins in two groupings, turned about by rotation", joins),
     ("floats by float arithmetic", floats),
     ("records written and read", records),
@@ -247,17 +249,48 @@ fn strongest_sets() -> u64 {
     60_000
 }
 
+/// Streams beside rings and by nothing. Wherever one can lie, it lies so beside rings of one corner, of two, of three and of more.
 fn covers() -> u64 {
     let mut chance = Chance::new(110);
-    for _ in 0..100_000 {
+    let mut had = BTreeSet::new();
+    for _ in 0..200_000 {
         let corners = ring_of(&short(&mut chance, 10).positions());
-        let near = if corners.is_empty() { at(0, 0) } else { chance.of(&corners) };
-        let part = |part: i64, by: i64| (part + by).clamp(-1_000_000, 1_000_000) as i32;
-        let stream = (part(near.east, chance.between(-3, 3)), part(near.north, chance.between(-3, 3)));
+        let corners = often_stretched(&mut chance, corners);
         let Samples { east, north } = Samples::of(&corners);
-        agree(cover(&east, &north, stream.0, stream.1), Ok(brute::cover(&corners, stream)), || format!("cover of {stream:?} by {corners:?}"));
+        if corners.is_empty() {
+            agree(cover(&east, &north, 0, 0), Ok(false), || "cover by nothing".to_string());
+            continue;
+        }
+        let Lying { words, position, covered } = beside(&mut chance, &corners);
+        if position.east.abs().max(position.north.abs()) <= 1_000_000 {
+            let other = brute::cover(&corners, position);
+            let about = || format!("cover of {position:?}, {words}, by {corners:?}");
+            agree(cover(&east, &north, position.east as i32, position.north as i32), Ok(other), about);
+            agree(other, covered.unwrap_or(other), about);
+            had.insert((words, corners.len().min(4)));
+        }
     }
-    100_000
+    // the edge of one corner alone has no middle
+    agree(had.len(), 4 * LYINGS - 1, || format!("where streams lay, and beside how many corners: {had:?}"));
+    200_000
+}
+
+/// Every ring of nine positions, and those of three corners or fewer twice as large. Where a stream is a mean, it is one of three corners by twice the areas
+/// that it has with each two of them: so weights up to twice the area of the largest triangle are enough.
+fn covers_by_weights() -> u64 {
+    let mut count = 0;
+    for (by, corners, most) in [(1, 9, 4), (2, 3, 16)] {
+        for ring in smallest_rings().iter().filter(|ring| ring.len() <= corners) {
+            let ring = stretched(ring, by);
+            let Samples { east, north } = Samples::of(&ring);
+            for stream in (-2 * by..=2 * by).flat_map(|east| (-2 * by..=2 * by).map(move |north| at(east, north))) {
+                let rules = cover(&east, &north, stream.east as i32, stream.north as i32);
+                agree(rules, Ok(brute::mean(&ring, stream, most)), || format!("weights of {stream:?} by {ring:?}"));
+                count += 1;
+            }
+        }
+    }
+    count
 }
 
 fn joins() -> u64 {

@@ -1,11 +1,12 @@
-//! The rules once more, written from the rules alone and by other methods than the library's: every number is picked by sorting, every chain is built by a
-//! sweep over sorted positions, every property is tested as it is defined.
+//! The rules once more, written from the rules and the later requests alone and by other methods than the library's: every number is picked by sorting, every
+//! chain is built by a sweep over sorted positions, a covered stream is given its weights, every property is tested as it is defined.
 //!
 //! Each entry here takes what the library's entry is lent and leaves it as the library must: so a refusal's number and place, the answer, and the final
 //! content of every lent list are all said by one function.
 
 pub mod chain;
 pub mod door;
+pub mod mean;
 pub mod program;
 pub mod rank;
 pub mod record;

@@ -1,6 +1,6 @@
 -- Joins, over the promises of the entries. Joined in any order and grouping, with repeats and with empty envelopes, wherever no step is refused, the
 -- corners are those of the ring of all streams behind; turning about may stand among the steps, so a join turned about is the join of the turned; and a
--- stream that a ring covers changes nothing when it is joined. A call is any that the entry's own promise allows.
+-- stream changes nothing when it is joined exactly if the ring covers it. A call is any that the entry's own promise allows.
 -- Assumes nothing.
 use mathlib.Core.Path.{_≡_, refl, sym, ap, ap₂, _∙_, subst}
 use mathlib.Core.Logic.{_↔_}
@@ -166,3 +166,10 @@ covered-changes-nothing k y c {n} e h g =
     let d = joining-done c e in
     let r : ring (covers.corners k) ≡ covers.corners k = envelope-ring (covers.corners k) .0 (ap envelope (sym h) ∙ d .ring-given) in
     left-as-given (d .left) (d .even) (ap₂ join h g ∙ covers.covered-behind k y (covers.corners k) r ∙ r ∙ sym h)
+
+-- and one that is not covered changes something
+pub uncovered-changes : (k : covers.Call) → k .answer ≡ said.No → (c : Joining) {n : ℕ} → c .answer ≡ counts.Count n
+    → streams (east c) (north c) ≡ covers.corners k → streams (east2 c) (north2 c) ≡ covers.asked k ∷ []
+    → take n (east-after c) ≡ east c → take n (north-after c) ≡ north c → ⊥
+uncovered-changes k n c e h g u v =
+    covers.uncovered-changes k n (sym (ap₂ join h g) ∙ sym (left-ring (joining-done c e .left)) ∙ ap₂ streams u v ∙ h)

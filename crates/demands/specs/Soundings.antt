@@ -19,7 +19,7 @@ use Rattle.rules.specs.Round.{Said, round}
 use Rattle.rules.specs.Use.{envelope, join, turn-about}
 use Rattle.rules.specs.Refusals.{Answer, done, Test, too-many, scratch-short, output-short, ring-tests, not-envelope, output-after, scratch-after}
 use Rattle.rules.specs.Entries.{Chains, kept-list, easts, norths, counted, ring-short, sample-tests, chains-answer, bridge-answer, round-answer, ring-answer, join-answer, turn-answer, strongest-answer, cover-answer}
-use Rattle.rules.specs.Soundings.{A-easts, A-norths, A-scratch, A-ring-easts, A-ring-norths, A, A-ring, A-round, tall, flat, three, soundings, slips}
+use Rattle.rules.specs.Soundings.{A-easts, A-norths, A-scratch, A-ring-easts, A-ring-norths, A, A-ring, A-round, tall, flat, three, soundings, outlines, slips}
 use Rattle.laws_rings.specs.Rings.{envelope-ring}
 use Rattle.laws_rounds.specs.StepsAtMiddle.{no-step-without-bridge}
 use Rattle.chains.specs.Promise as chains
@@ -325,3 +325,7 @@ pub A-ring-written : (c : Ring-of (ring-answer A-easts A-norths) 5 176) →
     × (c .scratch-left ≡ zeros (c .scratch))
 unfolding A-ring
 A-ring-written c = ring-of c (ring-A (c .east) (c .north) (c .scratch) (c .east-room) (c .north-room) (c .scratch-room))
+
+-- (0,1), on the outline of A, is covered
+pub A-outline-covered : (c : Cover-of A-ring-easts A-ring-norths (pos 0) (pos 1)) → c .answer ≡ cover.Yes
+A-outline-covered c = covered-yes (c .answer) (c .promised ∙ outlines .on-A)

@@ -1,17 +1,17 @@
--- Walks round a ring place by place: the test of neighbours, and of a stream inside every edge. Assumes nothing.
+-- Walks round a ring place by place: the test of neighbours, and of a stream right of or on every edge; both tests by the number of corners.
+-- Assumes nothing.
 use mathlib.Core.Path.{_≡_, refl, ap, ap₂, _∙_}
 use mathlib.Core.Bool.{Bool, true, false, _&&_}
 use mathlib.Core.List.{List, [], _∷_}
 use Prim.Native.Nat.{ℕ, suc, _+_, _-_, _≤_, _<_}
 use native.Mathlib.Omega.{arith}
 use lib.IntN.{pos}
-use lib.Signed.{ltZ}
+use lib.Signed.{leZ, ltZ}
 use lib.ListN.{length, drop, drop-of-length-le}
 use lib.Seq.{drop-cons}
-use borrow.Author.Tests.{lt-leb, le-leb}
-use Rattle.rules.specs.Streams.{Stream, stream, sample, side}
+use Rattle.rules.specs.Streams.{Stream, stream, sample, same, side}
 use Rattle.rules.specs.Chain.{leftmost}
-use Rattle.rules.specs.Use.{inside, covers}
+use Rattle.rules.specs.Use.{beside, covers}
 use Rattle.laws_neighbours.specs.NeighbourTest.{turns, closes, goes-round, neighbourly}
 
 module _ (xs : List Stream) where
@@ -51,27 +51,27 @@ module _ (xs : List Stream) where
   unfolding goes-round
   round-end i h = ap (goes-round (sample xs 0) (sample xs (i - 2)) (sample xs (i - 1))) (drop-of-length-le xs h)
 
-  -- ---- inside every edge
+  -- ---- right of or on every edge
 
-  -- what is left of the test whether s is inside when it comes to place i
-  abbrev pub inside-from : Stream → ℕ → Bool
-  inside-from s i = inside s (sample xs 0) (sample xs (i - 1)) (drop i xs)
+  -- what is left of the test whether s lies beside every edge when it comes to place i
+  abbrev pub beside-from : Stream → ℕ → Bool
+  beside-from s i = beside s (sample xs 0) (sample xs (i - 1)) (drop i xs)
 
-  pub inside-more : (s : Stream) (i : ℕ) → 1 ≤ i → i < length xs →
-      inside-from s i ≡ (ltZ (side (sample xs (i - 1)) (sample xs i) s) (pos 0) && inside-from s (i + 1))
-  unfolding inside
-  inside-more s i one h =
-      ap (inside s (sample xs 0) (sample xs (i - 1))) (left-at i h) ∙
+  pub beside-more : (s : Stream) (i : ℕ) → 1 ≤ i → i < length xs →
+      beside-from s i ≡ (leZ (side (sample xs (i - 1)) (sample xs i) s) (pos 0) && beside-from s (i + 1))
+  unfolding beside
+  beside-more s i one h =
+      ap (beside s (sample xs 0) (sample xs (i - 1))) (left-at i h) ∙
       ap
-      (λ (k : ℕ). ltZ (side (sample xs (i - 1)) (sample xs i) s) (pos 0) && inside s (sample xs 0) (sample xs k) (drop (i + 1) xs))
+      (λ (k : ℕ). leZ (side (sample xs (i - 1)) (sample xs i) s) (pos 0) && beside s (sample xs 0) (sample xs k) (drop (i + 1) xs))
       (same-place i)
     where
       same-place : (i : ℕ) → i ≡ i + 1 - 1
       same-place i = omega arith
 
-  pub inside-end : (s : Stream) (i : ℕ) → length xs ≤ i → inside-from s i ≡ ltZ (side (sample xs (i - 1)) (sample xs 0) s) (pos 0)
-  unfolding inside
-  inside-end s i h = ap (inside s (sample xs 0) (sample xs (i - 1))) (drop-of-length-le xs h)
+  pub beside-end : (s : Stream) (i : ℕ) → length xs ≤ i → beside-from s i ≡ leZ (side (sample xs (i - 1)) (sample xs 0) s) (pos 0)
+  unfolding beside
+  beside-end s i h = ap (beside s (sample xs 0) (sample xs (i - 1))) (drop-of-length-le xs h)
 
 -- ---- rings by their number of corners
 
@@ -97,12 +97,26 @@ more-pass (p ∷ q ∷ r ∷ ps) h = refl
 
 -- ---- the cover test by the number of corners
 
-pub few-cover : (xs : List Stream) (s : Stream) → length xs < 3 → covers xs s ≡ false
+pub none-cover : (xs : List Stream) (s : Stream) → length xs ≡ 0 → covers xs s ≡ false
 unfolding covers
-few-cover [] s h = refl
-few-cover (p ∷ ps) s h = ap (λ (b : Bool). b && inside s p p ps) (lt-leb 3 (length (p ∷ ps)) h)
+none-cover [] s h = refl
+none-cover (p ∷ ps) s h = absurd (omega arith)
 
-pub enough-cover : (xs : List Stream) (s : Stream) → 3 ≤ length xs → covers xs s ≡ inside-from xs s 1
+pub one-cover : (xs : List Stream) (s : Stream) → length xs ≡ 1 → covers xs s ≡ same (sample xs 0) s
 unfolding covers
-enough-cover [] s h = absurd (omega arith)
-enough-cover (p ∷ ps) s h = ap (λ (b : Bool). b && inside s p p ps) (le-leb 3 (length (p ∷ ps)) h)
+one-cover [] s h = absurd (omega arith)
+one-cover (p ∷ []) s h = refl
+one-cover (p ∷ q ∷ ps) s h = absurd (omega arith)
+
+pub two-cover : (xs : List Stream) (s : Stream) → length xs ≡ 2 → covers xs s ≡ covers (sample xs 0 ∷ sample xs 1 ∷ []) s
+two-cover [] s h = absurd (omega arith)
+two-cover (p ∷ []) s h = absurd (omega arith)
+two-cover (p ∷ q ∷ []) s h = refl
+two-cover (p ∷ q ∷ r ∷ ps) s h = absurd (omega arith)
+
+pub more-cover : (xs : List Stream) (s : Stream) → 2 < length xs → covers xs s ≡ beside-from xs s 1
+unfolding covers
+more-cover [] s h = absurd (omega arith)
+more-cover (p ∷ []) s h = absurd (omega arith)
+more-cover (p ∷ q ∷ []) s h = absurd (omega arith)
+more-cover (p ∷ q ∷ r ∷ ps) s h = refl

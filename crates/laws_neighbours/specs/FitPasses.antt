@@ -15,7 +15,7 @@ use Rattle.whole.specs.Certificate.{_⊞_, _⊠_, scaled, from-<, from-≡, fro
 use Rattle.rules.specs.Streams.{Stream, side, same, mirrored}
 use Rattle.rules.specs.Chain.{Samples, Of, Edge, Turn, Goes, stop, on, leftmost}
 use Rattle.rules.specs.Ring.{last-of, leave-first, leave-last, closed}
-use Rattle.laws_outline.specs.ListLaws.{yes-both, in-map, map-in}
+use Rattle.laws_outline.specs.ListLaws.{yes-both, yes-one, in-map, map-in}
 use Rattle.laws_outline.specs.SamePosition.{streams-equal, same-equal, same-no}
 use Rattle.laws_outline.specs.TwoKeys.{yes-first-key, yes-second-key}
 use Rattle.laws_outline.specs.Sidedness.{side-mirrored, mirrored-twice, at-first-strictly-below, at-second-strictly-below}
@@ -29,12 +29,7 @@ use Rattle.laws_neighbours.specs.ListsFit.{Atop, Fit, fit-mirrored, uppe
 -- ---- the tests, from facts
 
 one-of : {a b c d : ℤ} → (a <ℤ b) ⊎ (c <ℤ d) → (ltZ a b || ltZ c d) ≡ true
-one-of {a} {b} {c} {d} (inl h) = ap (λ (t : Bool). t || ltZ c d) (lt-test h)
-one-of {a} {b} {c} {d} (inr h) = go (ltZ a b)
-  where
-    go : (t : Bool) → (t || ltZ c d) ≡ true
-    go true = refl
-    go false = lt-test h
+one-of {a} {b} {c} {d} o = yes-one (ltZ a b) (ltZ c d) (⊎-elim (λ h. inl (lt-test h)) (λ h. inr (lt-test h)) o)
 
 step : (first a b c : Stream) (C : List Stream) → side a b c <ℤ pos 0 → (a .east <ℤ b .east) ⊎ (c .east <ℤ b .east) → goes-round first b c C ≡ true
     → goes-round first a b (c ∷ C) ≡ true

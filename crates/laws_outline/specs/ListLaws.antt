@@ -27,6 +27,10 @@ pub one-yes : (s t : Bool) → (s || t) ≡ true → (s ≡ true) ⊎ (t ≡ tru
 one-yes true t e = inl refl
 one-yes false t e = inr e
 
+pub yes-one : (s t : Bool) → (s ≡ true) ⊎ (t ≡ true) → (s || t) ≡ true
+yes-one true t o = refl
+yes-one false t o = ⊎-elim (λ e. absurd (false≢true e)) (λ e. e) o
+
 pub both-no : (s t : Bool) → (s || t) ≡ false → (s ≡ false) × (t ≡ false)
 both-no true t e = absurd (true≢false e)
 both-no false t e = (refl, e)

@@ -1,14 +1,13 @@
 -- Tests by two keys: one item is ahead of another in the first, or level in it and ahead in the second.
 -- Assumes nothing.
-use mathlib.Core.Path.{_≡_, refl, sym, ap, ap₂, _∙_, subst}
+use mathlib.Core.Path.{_≡_, sym, ap, ap₂, _∙_, subst}
 use mathlib.Core.Logic.{_⊎_, inl, inr, ⊎-elim}
 use mathlib.Core.Bool.{Bool, true, false, _&&_, _||_, and-false}
-use Prim.Native.Nat.{_≤_, _<_}
 use lib.IntN.{ℤ}
 use lib.Signed.{_≤ℤ_, _<ℤ_, ltZ, ≤ℤ-refl}
 use Rattle.whole.specs.Laws.{<ℤ-trans, lt-test, nlt-test, eq-test, test-lt, test-nlt, test-eq}
 use Rattle.rules.specs.Streams.{eqZ}
-use Rattle.laws_outline.specs.ListLaws.{both-yes, yes-both, one-no, one-yes, both-no, answer, not-both, Ranks}
+use Rattle.laws_outline.specs.ListLaws.{both-yes, yes-both, one-no, one-yes, yes-one, both-no, not-both, Ranks}
 
 -- ---- tests by two keys: one is ahead in the first, or level in it and ahead in the second
 
@@ -37,11 +36,7 @@ pub yes-first-key : {a b : ℤ} (c d e f : ℤ) → a <ℤ b → (ltZ a b || eqZ
 yes-first-key c d e f h = ap (λ (t : Bool). t || eqZ c d && ltZ e f) (lt-test h)
 
 pub yes-second-key : (a b : ℤ) {c d e f : ℤ} → c ≡ d → e <ℤ f → (ltZ a b || eqZ c d && ltZ e f) ≡ true
-yes-second-key a b {c} {d} {e} {f} p q = go (ltZ a b)
-  where
-    go : (t : Bool) → (t || eqZ c d && ltZ e f) ≡ true
-    go true = refl
-    go false = yes-both (eq-test p) (lt-test q)
+yes-second-key a b {c} {d} {e} {f} p q = yes-one (ltZ a b) (eqZ c d && ltZ e f) (inr (yes-both (eq-test p) (lt-test q)))
 
 -- such a test ranks the items
 way-not-itself : (w : Bool) (a : ℤ) → way w a a ≡ false
@@ -74,12 +69,9 @@ two-keys-rank {A} w v first second = record { not-itself = λ x t. itself x; in-
         (eqZ (first x) (first y) && way v (second x) (second y)) e)
 
     gives : (x y : A) → Ahead x y → beats x y ≡ true
-    gives x y (inl e) = ap (λ (t : Bool). t || eqZ (first x) (first y) && way v (second x) (second y)) e
-    gives x y (inr e) = go (way w (first x) (first y))
-      where
-        go : (t : Bool) → (t || eqZ (first x) (first y) && way v (second x) (second y)) ≡ true
-        go true = refl
-        go false = yes-both (eq-test (e .0)) (e .1)
+    gives x y o =
+        yes-one (way w (first x) (first y)) (eqZ (first x) (first y) && way v (second x) (second y))
+        (⊎-elim inl (λ e. inr (yes-both (eq-test (e .0)) (e .1))) o)
 
     follows : (x y z : A) → Ahead x y → Ahead y z → Ahead x z
     follows x y z (inl p) (inl q) = inl (way-in-turn w (first x) (first y) (first z) p q)

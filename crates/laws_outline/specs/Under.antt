@@ -114,7 +114,20 @@ mirrored-behind h = mirrored-on h
 pub turned-behind : {T : Samples} {s : Stream} → Behind T s → Behind (Through turned T) (turned s)
 turned-behind h = turned-on h
 
--- ---- what holds of all the samples that s is under holds of s
+-- ---- what holds of all the samples that s is under, or behind, holds of s
+
+-- if none is left of the way from p to q then s is not: on the course across it
+pub on-line : {K : ℤ → ℤ → Type 0} {T : Samples} {s : Stream} (p q : Stream) → On K T s → K (p .north -ℤ q .north) (q .east -ℤ p .east)
+    → ((t : Stream) → T t → side p q t ≤ℤ pos 0) → side p q s ≤ℤ pos 0
+on-line {s} p q u k f = let t = u .stronger (p .north -ℤ q .north) (q .east -ℤ p .east) k in across (t .0) (f (t .0) (t .1)) (t .2)
+  where
+    across : (t : Stream) → side p q t ≤ℤ pos 0
+        → set-on (p .north -ℤ q .north) (q .east -ℤ p .east) s ≤ℤ set-on (p .north -ℤ q .north) (q .east -ℤ p .east) t → side p q s ≤ℤ pos 0
+    across t b h =
+        let c = set-on (p .north -ℤ q .north) (q .east -ℤ p .east) p in
+        let e = set-across p q s in
+        let g = set-across p q t in
+        omega (order, sum c (side p q s), sum c (side p q t))
 
 -- some sample is no further east than s, some no further west, some no further south
 module _ {T : Samples} {s : Stream} (u : Under T s) where
@@ -136,14 +149,6 @@ module _ {T : Samples} {s : Stream} (u : Under T s) where
       northward : (t : Stream) → set-on (pos 0) (pos 1) s ≤ℤ set-on (pos 0) (pos 1) t → s .north ≤ℤ t .north
       northward t h = let p = set-northward s in let q = set-northward t in omega order
 
-  -- if all are on or below the line pq then so is s: on the course across pq
+  -- if all are on or below the line pq then so is s
   pub under-line : (p q : Stream) → p .east ≤ℤ q .east → ((t : Stream) → T t → side p q t ≤ℤ pos 0) → side p q s ≤ℤ pos 0
-  under-line p q pq f = let t = u .stronger (p .north -ℤ q .north) (q .east -ℤ p .east) (≤ℤ→0≤ pq) in across (t .0) (f (t .0) (t .1)) (t .2)
-    where
-      across : (t : Stream) → side p q t ≤ℤ pos 0
-          → set-on (p .north -ℤ q .north) (q .east -ℤ p .east) s ≤ℤ set-on (p .north -ℤ q .north) (q .east -ℤ p .east) t → side p q s ≤ℤ pos 0
-      across t b h =
-          let c = set-on (p .north -ℤ q .north) (q .east -ℤ p .east) p in
-          let e = set-across p q s in
-          let g = set-across p q t in
-          omega (order, sum c (side p q s), sum c (side p q t))
+  under-line p q pq f = on-line p q u (≤ℤ→0≤ pq) f

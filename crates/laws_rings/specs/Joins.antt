@@ -1,15 +1,17 @@
 -- Joining rings: from corners alone a join is the envelope of all streams behind both rings, in any order and grouping, and repeats and empty rings
 -- change nothing. Assumes nothing.
-use mathlib.Core.Path.{_≡_, refl, sym, ap, ap₂, _∙_}
+use mathlib.Core.Path.{_≡_, refl, sym, ap, ap₂, _∙_, subst}
 use mathlib.Core.Logic.{_↔_, ⊎-elim}
 use mathlib.Core.Bool.{true}
-use mathlib.Core.List.{List, [], _++_, append-nil, append-assoc, List·Memᴰ, List·Memᴰ·append-cases, Memᴰ·append-left, Memᴰ·append-right}
+use mathlib.Core.List.{List, [], _∷_, _++_, append-nil, append-assoc, List·Memᴰ, List·Memᴰ·head}
+use mathlib.Core.List.{List·Memᴰ·append-cases, List·Memᴰ·eq-of-singleton, Memᴰ·append-left, Memᴰ·append-right}
 use Rattle.rules.specs.Streams.{Stream}
+use Rattle.rules.specs.Chain.{Of}
 use Rattle.rules.specs.Ring.{ring}
 use Rattle.rules.specs.Use.{envelope, join}
-use Rattle.laws_outline.specs.Under.{on-self, on-inside}
+use Rattle.laws_outline.specs.Under.{Behind, on-self, on-inside}
 use Rattle.laws_outline.specs.SameOutline.{ring-equal, ring-members}
-use Rattle.laws_rings.specs.Rings.{AllBehind, ring-behind, behind-ring, envelope-ring, ring-envelope}
+use Rattle.laws_rings.specs.Rings.{ring-sample, AllBehind, ring-behind, behind-ring, envelope-ring, ring-envelope}
 
 -- ---- two lists behind two others, one after the other
 
@@ -26,6 +28,18 @@ itself-behind xs s m = on-self m
 pub same-join : (xs ys us vs : List Stream) → AllBehind xs us → AllBehind us xs → AllBehind ys vs → AllBehind vs ys →
     ring (xs ++ ys) ≡ ring (us ++ vs)
 same-join xs ys us vs b b′ c c′ = ring-equal (both-behind xs ys us vs b c) (both-behind us vs xs ys b′ c′)
+
+-- one stream more changes no ring exactly if it lies behind
+pub behind-same-ring : (xs : List Stream) (s : Stream) → Behind (Of xs) s ↔ (ring (xs ++ (s ∷ [])) ≡ ring xs)
+behind-same-ring xs s = (
+  λ h. ring-equal (with-it h) (λ t m. on-self (Memᴰ·append-left (s ∷ []) m)),
+  λ e. on-inside (λ t. ring-sample xs)
+      (subst (λ (r : List Stream). Behind (Of r) s) e (behind-ring (xs ++ (s ∷ [])) s (Memᴰ·append-right xs (List·Memᴰ·head refl)))),
+)
+  where
+    with-it : Behind (Of xs) s → AllBehind (xs ++ (s ∷ [])) xs
+    with-it h t m =
+        ⊎-elim on-self (λ n. subst (Behind (Of xs)) (sym (List·Memᴰ·eq-of-singleton n)) h) (List·Memᴰ·append-cases xs m)
 
 -- from corners alone, the envelope of all streams behind both
 pub join-rings : (xs ys : List Stream) → join (ring xs) (ring ys) ≡ ring (xs ++ ys)

@@ -1,9 +1,10 @@
 pub mod Reversed
 pub mod FromBehind
 pub mod Rings
+pub mod Halves
 pub mod FewestCorners
 pub mod Joins
+pub mod Corners
 pub mod Turning
 pub mod Strongest
-pub mod Covering
 pub mod Cycle

@@ -16,7 +16,7 @@ use Rattle.rules.specs.Picker.{ranked, rank}
 use Rattle.rules.specs.Step.{cut, left-list, right-list, first-list, cut-bridge, steps, chain-by-steps}
 use Rattle.rules.specs.Bridge.{ends, edge-over, bridge, spans, reported}
 use Rattle.rules.specs.Round.{Slope, Said, found, kept, slope-le, height, middle-slope, paired, slopes, keep, left-top, right-top, round-with, round}
-use Rattle.rules.specs.Use.{envelope, set-on, strongest, strongest-place, inside, covers, join, turn-about}
+use Rattle.rules.specs.Use.{envelope, set-on, strongest, strongest-place, between, beside, covers, join, turn-about}
 use Rattle.rules.specs.Refusals.{Answer, refused, done}
 use Rattle.rules.specs.Entries.{bridge-answer, round-answer, strongest-answer, cover-answer}
 use Rattle.rules.specs.Program.{decimal, unsigned, number, cut-at, line, text, samples, digits, printed-natural, printed-whole, printed-corners, printed, program}
@@ -76,7 +76,7 @@ pub record Soundings : Type 0 where
   pub P12 : cover-answer A-ring-easts A-ring-norths (pos 2) (pos 1) ≡ done true
 
 pub soundings : Soundings
-unfolding A A-ring A-round tall flat three those some-of all-of first-place best-from best insert sorted alike streams within beyond same side leftmost rightmost left-end right-end furthest-round next-corner corners upper lower lowest upper-numbers lower-numbers closed ring ranked rank edge-over bridge spans reported slope-le height middle-slope paired slopes keep left-top right-top round-with round envelope set-on strongest strongest-place inside covers join turn-about bridge-answer round-answer strongest-answer cover-answer
+unfolding A A-ring A-round tall flat three those some-of all-of first-place best-from best insert sorted alike streams within beyond same side leftmost rightmost left-end right-end furthest-round next-corner corners upper lower lowest upper-numbers lower-numbers closed ring ranked rank edge-over bridge spans reported slope-le height middle-slope paired slopes keep left-top right-top round-with round envelope set-on strongest strongest-place between beside covers join turn-about bridge-answer round-answer strongest-answer cover-answer
 soundings =
     record {
       P1 = refl;
@@ -102,6 +102,41 @@ A-ring-stands = (refl, refl)
 pub A-by-steps : chain-by-steps A ≡ some (stream (pos 0) (pos 3) ∷ stream (pos 2) (pos 5) ∷ stream (pos 4) (pos 3) ∷ [])
 unfolding A those some-of first-place best-from best insert sorted streams same side leftmost rightmost left-end right-end furthest-round next-corner corners upper edge-over bridge ranked rank cut left-list right-list first-list cut-bridge steps chain-by-steps
 A-by-steps = refl
+
+-- ---- the cover test takes the outline
+
+pub record Outlines : Type 0 where
+  -- "(0,1) in A is now yes"; so is each corner; a unit off it is no
+  pub on-A : cover-answer A-ring-easts A-ring-norths (pos 0) (pos 1) ≡ done true
+  pub corners-of-A : all-of (covers A-ring) A-ring ≡ true
+  pub off-A : cover-answer A-ring-easts A-ring-norths (negsuc 0) (pos 1) ≡ done false
+  -- "the whole segment between them": an end and the middle, not beyond an end, not beside it
+  pub end : covers flat (stream (pos 4) (pos 0)) ≡ true
+  pub middle : covers tall (stream (pos 2) (pos 3)) ≡ true
+  pub beyond-flat : covers flat (stream (pos 5) (pos 0)) ≡ false
+  pub beyond-tall : covers tall (stream (pos 2) (pos 6)) ≡ false
+  pub beside-tall : covers tall (stream (pos 3) (pos 3)) ≡ false
+  -- "its one position", and "nothing"
+  pub one : covers (stream (pos 3) (pos 4) ∷ []) (stream (pos 3) (pos 4)) ≡ true
+  pub beside-one : covers (stream (pos 3) (pos 4) ∷ []) (stream (pos 4) (pos 4)) ≡ false
+  pub empty : cover-answer [] [] (pos 0) (pos 0) ≡ done false
+
+pub outlines : Outlines
+unfolding A-ring tall flat those some-of all-of first-place best-from best alike streams within beyond same side leftmost left-end furthest-round next-corner corners upper lower closed ring envelope between beside covers cover-answer
+outlines =
+    record {
+      on-A = refl;
+      corners-of-A = refl;
+      off-A = refl;
+      end = refl;
+      middle = refl;
+      beyond-flat = refl;
+      beyond-tall = refl;
+      beside-tall = refl;
+      one = refl;
+      beside-one = refl;
+      empty = refl;
+    }
 
 -- ---- easy slips
 

@@ -1,12 +1,13 @@
 -- Using a ring: the envelope, the ring hand, the strongest set, the cover test, join and turn about. "A ring comes as two lists, east and north, and is an
 -- envelope exactly if it equals the ring of its own positions."
 -- Assumes nothing.
-use mathlib.Core.Bool.{Bool, false, cond, _&&_}
+use mathlib.Core.Path.{_≡_}
+use mathlib.Core.Bool.{Bool, false, cond, _&&_, _||_}
 use mathlib.Core.List.{List, [], _∷_, _++_, map}
 use Prim.Native.Nat.{ℕ, zero, _+_}
 use lib.IntN.{ℤ, pos, _+ℤ_, _*ℤ_}
-use lib.Signed.{ltZ}
-use lib.Dec.{leb, eqb}
+use lib.Signed.{_<ℤ_, leZ, ltZ}
+use lib.Dec.{eqb}
 use lib.ListN.{length}
 use Rattle.rules.specs.Lists.{alike, best-from, first-place}
 use Rattle.rules.specs.Streams.{Stream, same, turned, side, eqZ}
@@ -49,15 +50,40 @@ strongest-place x y p ps = first-place (λ s. eqZ (set-on x y s) (strongest x y 
 
 -- ---- cover test
 
--- the stream lies strictly inside every edge from p on over the corners, and back to the first
-unfoldable pub inside : Stream → Stream → Stream → List Stream → Bool
-inside s first p [] = ltZ (side p first s) (pos 0)
-inside s first p (q ∷ ps) = ltZ (side p q s) (pos 0) && inside s first q ps
+-- the part of each corner times its weight, added up
+unfoldable pub weighed : (Stream → ℤ) → List ℕ → List Stream → ℤ
+weighed part [] ps = pos 0
+weighed part (w ∷ ws) [] = pos 0
+weighed part (w ∷ ws) (p ∷ ps) = pos w *ℤ part p +ℤ weighed part ws ps
 
--- "yes exactly if the ring has three corners or more and the stream lies strictly inside every edge"
+-- the weights of corners added up
+abbrev pub total : List ℕ → List Stream → ℤ
+total ws r = weighed (λ p. pos 1) ws r
+
+-- "a weighted mean of corners", the weights "whole numbers, none below 0 and not all 0", one for each corner
+pub record Mean (r : List Stream) (s : Stream) : Type 0 where
+  pub weights : List ℕ
+  pub for-each : length weights ≡ length r
+  pub not-all-0 : pos 0 <ℤ total weights r
+  pub of-easts : weighed (λ p. p .east) weights r ≡ total weights r *ℤ s .east
+  pub of-norths : weighed (λ p. p .north) weights r ≡ total weights r *ℤ s .north
+
+-- x lies from a to b or from b to a, ends included
+unfoldable pub between : ℤ → ℤ → ℤ → Bool
+between a b x = (leZ a x && leZ x b) || (leZ b x && leZ x a)
+
+-- the stream lies right of or on every edge from p on over the corners, and back to the first
+unfoldable pub beside : Stream → Stream → Stream → List Stream → Bool
+beside s first p [] = leZ (side p first s) (pos 0)
+beside s first p (q ∷ ps) = leZ (side p q s) (pos 0) && beside s first q ps
+
+-- "yes exactly if the stream is a weighted mean of corners", decided by sidedness: "an empty ring nothing", "a one-corner ring its one position", "a
+-- two-corner ring covers the whole segment between them", and any other what lies right of or on every edge
 unfoldable pub covers : List Stream → Stream → Bool
 covers [] s = false
-covers (p ∷ ps) s = leb 3 (length (p ∷ ps)) && inside s p p ps
+covers (p ∷ []) s = same p s
+covers (p ∷ q ∷ []) s = eqZ (side p q s) (pos 0) && between (p .east) (q .east) (s .east) && between (p .north) (q .north) (s .north)
+covers (p ∷ q ∷ r ∷ ps) s = beside s p p (q ∷ r ∷ ps)
 
 -- ---- join and turn about
 

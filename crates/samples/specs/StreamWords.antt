@@ -1,5 +1,5 @@
--- What the code computes with: each part of a near stream is read from a word of 32 bits as it is, and is within the limit; words compared.
--- Assumes nothing.
+-- What the code computes with: each part of a near stream is read from a word of 32 bits as it is, and is within the limit. Two words are equal
+-- exactly if their numbers are. Assumes nothing.
 use mathlib.Core.Path.{_≡_, refl, sym, ap, _∙_}
 use mathlib.Core.Bool.{Bool, true, false}
 use mathlib.Core.List.{[], _∷_}

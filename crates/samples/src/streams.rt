@@ -4,7 +4,7 @@ ghost use mathlib.Core.Bool.{not};
 ghost use mathlib.Core.Path.{_≡_};
 ghost use Prim.Native.Nat.{_<_};
 ghost use lib.IntN.{pos};
-ghost use lib.Signed.{ltZ};
+ghost use lib.Signed.{leZ, ltZ};
 ghost use lib.ListN.{length};
 ghost use Rattle.rules.specs.Streams.{streams, sample, within, beyond, same, side};
 ghost use Rattle.rules.specs.Chain.{leftmost};
@@ -112,6 +112,14 @@ pub fn strictly_right(p: Stream, q: Stream, r: Stream) -> bool
     ensures { λ t. ⌜ t ≡ ltZ (side (stream-of p) (stream-of q) (stream-of r)) (pos 0) ⌝ }
 {
     side(p, q, r) < 0
+}
+
+// On the way from p to q, r lies right or on the line.
+pub fn not_left(p: Stream, q: Stream, r: Stream) -> bool
+    requires { ⌜ Near (stream-of p) × Near (stream-of q) × Near (stream-of r) ⌝ }
+    ensures { λ t. ⌜ t ≡ leZ (side (stream-of p) (stream-of q) (stream-of r)) (pos 0) ⌝ }
+{
+    side(p, q, r) <= 0
 }
 
 // How strong s sets on a course.

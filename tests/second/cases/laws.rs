@@ -5,11 +5,13 @@ use std::collections::BTreeMap;
 use std::fmt::Debug;
 use std::time::Instant;
 
+use super::cover::beside;
 use crate::driver::{
     fail, Entry, Lent, Library, BRIDGE, CHAINS, COVER, HAND_FOR, HAND_STEP, JOIN, PICK, READINGS, RECORD, RING, ROUND, STRONGEST, TURN_ABOUT,
 };
 use crate::gen::{of_sizes, samples, times, Chance, Samples};
-use crate::rules::scratch_for;
+use crate::rules::chain::{at, positions};
+use crate::rules::{scratch_for, LIMIT};
 
 /// The lists of middle size have 256 to 32,768 samples, so that no two rings made of some of them have too many corners together.
 const MIDDLE: (u32, u32) = (8, 15);
@@ -160,7 +162,7 @@ impl Laws {
         let all = self.of_joins(samples, &rings);
         self.of_turning(&rings[0], &rings[rings.len() - 1]);
         self.of_sets(&rings[0], &rings[rings.len() - 1]);
-        self.of_cover(&all, &rings[0]);
+        self.of_cover(samples, &all, &rings[0]);
         self.of_records(&all);
         self.of_hands(all.east.len());
     }
@@ -215,23 +217,38 @@ impl Laws {
         }
     }
 
-    fn of_cover(&mut self, ring: &Ring, part: &Ring) {
+    /// A stream within the limit beside a ring.
+    fn near(&mut self, ring: &Ring) -> (i32, i32) {
+        let corners = positions(&ring.east, &ring.north);
+        let beside = if corners.is_empty() { at(0, 0) } else { beside(&mut self.chance, &corners).position };
+        let part = |part: i64| part.clamp(-LIMIT as i64, LIMIT as i64) as i32;
+        (part(beside.east), part(beside.north))
+    }
+
+    /// Of the ring of samples, and of the ring of a part of them.
+    fn of_cover(&mut self, samples: &Samples, ring: &Ring, part: &Ring) {
+        if !samples.east.is_empty() {
+            let place = self.chance.below(samples.east.len());
+            let sample = (samples.east[place], samples.north[place]);
+            let covered = self.covers(ring, sample);
+            self.hold("a ring covers every sample that it is the ring of", covered, true, &(sample, samples));
+        }
         for _ in 0..4 {
-            let corners = ring.east.len();
-            let near = |chance: &mut Chance| (chance.below(corners.max(1)), chance.below(corners.max(1)), chance.below(corners.max(1)));
-            let (p, q, r) = near(&mut self.chance);
-            let middle = |list: &[i32]| if list.is_empty() { 0 } else { (list[p] + list[q] + list[r]) / 3 };
-            let stream = (middle(&ring.east), middle(&ring.north));
+            let stream = self.near(ring);
             let covered = self.covers(ring, stream);
             let joined = self.join(ring, &Ring { east: vec![stream.0], north: vec![stream.1] });
             if covered {
                 self.hold("a ring joined with a stream that it covers is itself", &joined, ring, &stream);
             }
-            let wider = self.covers(part, stream);
-            self.hold("what a ring covers, a wider one covers", wider && !covered, false, &(stream, ring, part));
+            if joined == *ring {
+                self.hold("a stream that changes nothing when it is joined is covered", covered, true, &(stream, ring));
+            }
+            let stream = self.near(part);
+            let (narrow, wide) = (self.covers(part, stream), self.covers(ring, stream));
+            self.hold("what a ring covers, a wider one covers", narrow && !wide, false, &(stream, ring, part));
             let turned = self.turned(ring);
             let turned = self.covers(&turned, (-stream.0, -stream.1));
-            self.hold("a turned ring covers the turned streams", turned, covered, &(stream, ring));
+            self.hold("a turned ring covers the turned streams", turned, wide, &(stream, ring));
         }
     }
 
@@ -307,7 +324,7 @@ impl Laws {
 }
 
 /// So many laws there are; each must have been held on some list.
-const LAWS: usize = 20;
+const LAWS: usize = 22;
 
 pub fn run(driver: &str) {
     let start = Instant::now();

@@ -1,5 +1,6 @@
 //! The soundings that are run, at every entry that they concern: part 1,000,000 taken, 1,000,001 refused 3; float 1000000.5 refused 13, 0.5 refused 14; 65,536
-//! samples taken, 65,537 refused 2. What is wanted stands here as the page of the rules has it; the rules of this program are not asked.
+//! samples taken, 65,537 refused 2; what later requests say of an entry. What is wanted stands here as the page of the rules has it; the rules of this program
+//! are not asked.
 
 use crate::driver::{
     Case, Desk, Entry, Lent, BRIDGE, CHAINS, COVER, HAND_FOR, HAND_STEP, JOIN, PART, PICK, READINGS, RECORD, RING, ROUND, STRONGEST, TURN_ABOUT,
@@ -179,7 +180,34 @@ pub fn strongest(desk: &mut Desk) {
 }
 
 pub fn cover(desk: &mut Desk) {
-    ring_and_stream(desk, &COVER, &[0, 0, 0]);
+    ring_and_stream(desk, &COVER, &[0, 0, 1]);
+    let mut of = |words, east: &[i32], north: &[i32], streams: &[(i64, i64)], covered| {
+        for &(x, y) in streams {
+            Call { entry: &COVER, scalars: vec![x, y], lent: vec![i32s(east), i32s(north)] }.leaves(desk, words, &[0, 0, covered], Vec::new());
+        }
+    };
+    let (east, north) = ([0, 2, 4, 4, 0], [3, 5, 3, 0, 0]);
+    of("P12: cover of (2,1) yes", &east, &north, &[(2, 1)], 1);
+    of("(0,1) in A is now yes", &east, &north, &[(0, 1)], 1);
+    of("a corner of A is covered", &east, &north, &[(0, 3), (2, 5), (4, 3), (4, 0), (0, 0)], 1);
+    of("the outline of A is covered", &east, &north, &[(1, 4), (3, 4), (4, 2), (2, 0), (0, 2)], 1);
+    of("outside A is not", &east, &north, &[(1, 5), (2, 6), (5, 2), (4, -1), (0, -1), (-1, 4), (0, 4), (6, 1), (-1, 1)], 0);
+    of("a two-corner ring covers the whole segment", &[0, 4], &[0, 2], &[(0, 0), (2, 1), (4, 2)], 1);
+    of("and not its line beyond or what is beside it", &[0, 4], &[0, 2], &[(6, 3), (-2, -1), (2, 0), (2, 2), (3, 1), (1, 1)], 0);
+    of("an upright one too", &[3, 3], &[5, 1], &[(3, 5), (3, 3), (3, 1)], 1);
+    of("an upright one's line beyond it is not", &[3, 3], &[5, 1], &[(3, 6), (3, 0), (2, 3), (4, 3)], 0);
+    of("a flat one too", &[-3, 3], &[7, 7], &[(-3, 7), (0, 7), (3, 7)], 1);
+    of("a flat one's line beyond it is not", &[-3, 3], &[7, 7], &[(-4, 7), (4, 7), (0, 6), (0, 8)], 0);
+    let wide = [-1_000_000, 1_000_000];
+    of("the segment between two ends of the sheet", &wide, &wide, &[(-1_000_000, -1_000_000), (0, 0), (999_999, 999_999), (1_000_000, 1_000_000)], 1);
+    of("beside that segment", &wide, &wide, &[(0, 1), (1, 0), (999_999, 1_000_000), (1_000_000, 999_999)], 0);
+    of("a one-corner ring covers its one position", &[3], &[4], &[(3, 4)], 1);
+    of("and nothing else", &[3], &[4], &[(4, 4), (2, 4), (3, 5), (3, 3), (0, 0), (4, 3)], 0);
+    of("an empty ring covers nothing", &[], &[], &[(0, 0), (1, 0), (-1_000_000, 1_000_000)], 0);
+    for (x, y, number) in [(1_000_001, 0, 3), (0, -1_000_001, 3), (1, 0, 9), (4, 0, 9)] {
+        let call = Call { entry: &COVER, scalars: vec![x, y], lent: vec![i32s(&[4, 0]), i32s(&[0, 0])] };
+        call.refused(desk, "the stream's 3 before 9, and no stream is covered by what is no envelope", number, 0);
+    }
 }
 
 pub fn turn_about(desk: &mut Desk) {

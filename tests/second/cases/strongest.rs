@@ -3,7 +3,8 @@
 use super::{choices, fields, EMPTY};
 use crate::driver::{Case, Desk, Lent, STRONGEST};
 use crate::gen::{
-    almost_ring, input_a, large_ring, ring, rings_of_middle_sizes, spoil, spoil_lengths, spoil_parts, times, too_many, Chance, Samples, MOST_CORNERS,
+    almost_ring, common, input_a, large_ring, ring, rings_of_middle_sizes, spoil, spoil_lengths, spoil_parts, times, too_many, Chance, Samples,
+    MOST_CORNERS,
 };
 use crate::rules::chain::{ring_of, Position};
 use crate::rules::using::strongest;
@@ -19,14 +20,6 @@ fn put(desk: &mut Desk, words: &'static str, ring: Samples, course: (i32, i32)) 
         said: fields(answer.map(|(set, place)| vec![set, place as i64]), 2),
         altered: Vec::new(),
     });
-}
-
-fn common(a: i64, b: i64) -> i64 {
-    if b == 0 {
-        a.abs().max(1)
-    } else {
-        common(b, a % b)
-    }
 }
 
 /// The course straight across the edge from p to q, outwards, as short as it is exact.

@@ -108,24 +108,30 @@ pub fn round(east: &[i32], north: &[i32], list: &[u32], a: i32) -> Said {
     Said::Kept((0..count).filter(kept).map(|place| list[place]).collect())
 }
 
+/// Whether p is in the line from u to v, ends included.
+fn in_line(p: Position, u: Position, v: Position) -> bool {
+    side(u, v, p) == 0
+        && (u.east.min(v.east)..=u.east.max(v.east)).contains(&p.east)
+        && (u.north.min(v.north)..=u.north.max(v.north)).contains(&p.north)
+}
+
+/// Whether p is in the triangle u, v, w, its lines included.
+fn in_triangle(p: Position, u: Position, v: Position, w: Position) -> bool {
+    let sides = [side(u, v, p), side(v, w, p), side(w, u, p)];
+    side(u, v, w) != 0 && (sides.iter().all(|&s| s >= 0) || sides.iter().all(|&s| s <= 0))
+}
+
+/// A stream is covered if it is in the line between two corners, which may be one corner twice, or in the triangle of three.
+pub fn cover(corners: &[Position], stream: Position) -> bool {
+    let line = |&u: &Position| corners.iter().any(|&v| in_line(stream, u, v));
+    let triangle = |&u: &Position| corners.iter().any(|&v| corners.iter().any(|&w| in_triangle(stream, u, v, w)));
+    corners.iter().any(line) || corners.iter().any(triangle)
+}
+
 /// The positions that are in no line between two others and in no triangle of three others.
 pub fn extreme(positions: &[Position]) -> BTreeSet<Position> {
     let all: BTreeSet<Position> = positions.iter().copied().collect();
-    let between = |p: Position, u: Position, v: Position| {
-        side(u, v, p) == 0
-            && (u.east.min(v.east)..=u.east.max(v.east)).contains(&p.east)
-            && (u.north.min(v.north)..=u.north.max(v.north)).contains(&p.north)
-    };
-    let inside = |p: Position, u: Position, v: Position, w: Position| {
-        let sides = [side(u, v, p), side(v, w, p), side(w, u, p)];
-        side(u, v, w) != 0 && (sides.iter().all(|&s| s >= 0) || sides.iter().all(|&s| s <= 0))
-    };
-    let is_extreme = |p: &Position| {
-        let others: Vec<Position> = all.iter().copied().filter(|q| q != p).collect();
-        let in_line = others.iter().any(|&u| others.iter().any(|&v| between(*p, u, v)));
-        let in_triangle = others.iter().any(|&u| others.iter().any(|&v| others.iter().any(|&w| inside(*p, u, v, w))));
-        !in_line && !in_triangle
-    };
+    let is_extreme = |p: &Position| !cover(&all.iter().copied().filter(|q| q != p).collect::<Vec<_>>(), *p);
     all.iter().copied().filter(is_extreme).collect()
 }
 
@@ -152,15 +158,21 @@ pub fn strongest(corners: &[Position], x: i32, y: i32) -> Option<(i64, usize)> {
     Some(best)
 }
 
-/// A stream lies strictly inside if it is no corner and every line through it and a corner has corners strictly on both sides.
-pub fn cover(corners: &[Position], stream: (i32, i32)) -> bool {
-    let stream = at(stream.0.into(), stream.1.into());
-    let divides = |&corner: &Position| {
-        let left = corners.iter().any(|&other| side(stream, corner, other) > 0);
-        let right = corners.iter().any(|&other| side(stream, corner, other) < 0);
-        left && right
-    };
-    !corners.is_empty() && !corners.contains(&stream) && corners.iter().all(divides)
+/// Whether a stream is the mean of corners by some weights from 0 to the most, one for each corner: all are tried, as a number counts on.
+pub fn mean(corners: &[Position], stream: Position, most: i64) -> bool {
+    let mut weights = vec![0; corners.len()];
+    loop {
+        let weighed = |part: fn(&Position) -> i64| -> i64 { corners.iter().zip(&weights).map(|(corner, weight)| weight * part(corner)).sum() };
+        let total = weighed(|_| 1);
+        if total > 0 && weighed(|p| p.east) == total * stream.east && weighed(|p| p.north) == total * stream.north {
+            return true;
+        }
+        let Some(place) = weights.iter().position(|&weight| weight < most) else {
+            return false;
+        };
+        weights[..place].fill(0);
+        weights[place] += 1;
+    }
 }
 
 /// Turning by half a circle keeps the order of the corners; only the start is another one.

@@ -49,7 +49,15 @@ fn using(sounding: &mut impl FnMut(&'static str, bool)) {
     sounding("P10", turned(&peak) == list(&[(-4, 0), (0, 0), (-2, -5)]));
     let ring_a = Samples::of(&ring_of(&input_a().positions()));
     sounding("P11", strongest(&ring_a.east, &ring_a.north, -1, 1) == Ok((3, 0)));
-    sounding("P12", cover(&ring_a.east, &ring_a.north, 2, 1) == Ok(true));
+    let of_a = |x, y| cover(&ring_a.east, &ring_a.north, x, y);
+    sounding("P12", of_a(2, 1) == Ok(true));
+    sounding("(0,1) in A is now yes", of_a(0, 1) == Ok(true) && of_a(-1, 1) == Ok(false));
+    sounding("corners are covered", ring_of(&input_a().positions()).iter().all(|p| of_a(p.east as i32, p.north as i32) == Ok(true)));
+    sounding("beside a corner", of_a(0, 4) == Ok(false) && of_a(4, -1) == Ok(false) && of_a(5, 3) == Ok(false));
+    sounding("the whole segment", [(2, 5), (2, 3), (2, 1)].iter().all(|&(x, y)| cover(&[2, 2], &[5, 1], x, y) == Ok(true)));
+    sounding("not beyond it", [(2, 6), (2, 0), (1, 3), (3, 3)].iter().all(|&(x, y)| cover(&[2, 2], &[5, 1], x, y) == Ok(false)));
+    sounding("its one position", cover(&[3], &[4], 3, 4) == Ok(true) && cover(&[3], &[4], 4, 4) == Ok(false) && cover(&[3], &[4], 3, 5) == Ok(false));
+    sounding("an empty ring nothing", cover(&[], &[], 0, 0) == Ok(false));
     sounding("flush corners", ring_of(&list(&[(0, 0), (1, 1), (2, 2)])) == list(&[(0, 0), (2, 2)]));
     sounding("one position", ring_of(&list(&[(5, 5), (5, 5)])) == list(&[(5, 5)]));
     sounding("no sample", ring_of(&[]).is_empty());

@@ -1,6 +1,7 @@
 //! Using a ring: hand, envelope, strongest set, cover test, join, turn about. Each as it is defined.
 
-use super::chain::{at, positions, ring_of, side, write_ring, Position};
+use super::chain::{at, positions, ring_of, write_ring, Position};
+use super::mean::covers;
 use super::{not_too_many, refuse, scratch_enough, two_lists, within, Answer};
 
 #[derive(Clone, Copy, PartialEq, Eq, Debug)]
@@ -66,12 +67,10 @@ pub fn strongest(east: &[i32], north: &[i32], x: i32, y: i32) -> Answer<(i64, us
     Ok((greatest, first))
 }
 
-/// Whether the stream (x, y) lies strictly inside every edge; a ring runs with its inside to the right.
+/// Whether the stream (x, y) is a weighted mean of the corners.
 pub fn cover(east: &[i32], north: &[i32], x: i32, y: i32) -> Answer<bool> {
     let corners = envelope_beside(east, north, x, y)?;
-    let stream = at(x as i64, y as i64);
-    let inside = |place: usize| side(corners[place], corners[(place + 1) % corners.len()], stream) < 0;
-    Ok(corners.len() >= 3 && (0..corners.len()).all(inside))
+    Ok(covers(&corners, at(x as i64, y as i64)))
 }
 
 pub fn turned(corners: &[Position]) -> Vec<Position> {
