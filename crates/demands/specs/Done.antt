@@ -1,32 +1,16 @@
 -- What an entry that is done says: none of its tests held, and the answer is what it was to be; a ring that it writes stands at the front of both outputs.
 -- Assumes nothing.
-use mathlib.Core.Path.{_≡_, refl, sym, ap, ap₂, _∙_}
-use mathlib.Core.Bool.{Bool, true, false, cond}
-use mathlib.Core.List.{List, [], _∷_}
+use mathlib.Core.Path.{_≡_, sym, ap, ap₂, _∙_}
+use mathlib.Core.List.{List}
 use Prim.Native.Nat.{ℕ}
-use native.Mathlib.Omega.{arith}
 use lib.IntN.{ℤ}
 use lib.ListN.{length, take, length-map}
 use Rattle.rules.specs.Streams.{Stream, streams}
-use Rattle.rules.specs.Refusals.{Answer, refused, done, Test, unless, output-after}
+use Rattle.rules.specs.Refusals.{Answer, done, Test, unless, output-after}
 use Rattle.rules.specs.Entries.{easts, norths, counted}
+pub use Rattle.laws_refusals.specs.NoneHold.{None-hold, when-done, not-refused}
 use Rattle.samples.specs.Samples.{streams-length, streams-easts, streams-norths}
 use Rattle.samples.specs.Outputs.{counted-done, front, streams-parts}
-use Rattle.samples.specs.Tests.{None-hold}
-
-pub when-done : {A : Type 0} (ts : List Test) (x : A) {y : A} → unless ts x ≡ done y → None-hold ts × (x ≡ y)
-when-done [] x e = (tt, cc)
-when-done (t ∷ ts) x {y} e = go (t .holds) refl e (λ h. when-done ts x h)
-  where
-    go : (b : Bool) → t .holds ≡ b → cond b (refused (t .number) (t .place)) (unless ts x) ≡ done y →
-        (unless ts x ≡ done y → None-hold ts × (x ≡ y)) → None-hold (t ∷ ts) × (x ≡ y)
-    go true h e rest = absurd (let z : _≡_ {A = ℕ} 0 1 = cc in omega arith)
-    go false h e rest = let r = rest e in ((h, r .0), r .1)
-
--- and where none holds it is done
-pub not-refused : {A : Type 0} (ts : List Test) (x : A) → None-hold ts → unless ts x ≡ done x
-not-refused [] x n = refl
-not-refused (t ∷ ts) x (h, n) = ap (λ (b : Bool). cond b (refused (t .number) (t .place)) (unless ts x)) h ∙ not-refused ts x n
 
 -- ---- a ring that is written
 

@@ -6,3 +6,4 @@ pub mod Scans
 pub mod Samples
 pub mod Tests
 pub mod Outputs
+pub mod Placed

@@ -12,6 +12,7 @@ use borrow.Author.Tests.{eqb-true, ltb-false, not-false}
 use Rattle.rules.specs.Lists.{zeros}
 use Rattle.rules.specs.Streams.{most}
 use Rattle.rules.specs.Refusals.{Answer, refused, Test, test, unless, output-short, ring-tests, scratch-after}
+pub use Rattle.laws_refusals.specs.NoneHold.{None-hold}
 use Rattle.samples.specs.declared.tests.Tested.{Tested}
 use Rattle.samples.specs.declared.tests.Tested.the-variants.{Passed, Refused}
 use Rattle.samples.specs.Positions.{Sampled}
@@ -26,11 +27,6 @@ abbrev pub room-tests : List ℤ → List ℤ → ℕ → List Test
 room-tests es ns room = ring-tests es ns ++ (test 4 0 (ltb room (16 * length es + 64)) ∷ [])
 
 -- ---- all of them
-
--- none holds
-abbrev pub None-hold : List Test → Type 0
-None-hold [] = Unit {0}
-None-hold (t ∷ ts) = (t .holds ≡ false) × None-hold ts
 
 -- a test that holds refuses after others that do not
 pub refused-at : (us : List Test) (t : Test) (ts : List Test) → None-hold us → t .holds ≡ true

@@ -3,7 +3,6 @@ pub mod Cuts
 pub mod Digits
 pub mod TextLines
 pub mod Writing
-pub mod Placed
 pub mod Naturals
 pub mod PrintedCorners
 pub mod Enough

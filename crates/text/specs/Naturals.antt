@@ -10,7 +10,7 @@ use borrow.Author.Tests.{lt-ltb, le-ltb, ltb-true, ltb-false}
 use lib.Dec.{ltb}
 use lib.ListN.{length, set}
 use Rattle.rules.specs.Program.{digit-zero, digits, printed-natural}
-use Rattle.text.specs.Placed.{placed, placed-none, placed-length, placed-before, Put}
+use Rattle.samples.specs.Placed.{placed, placed-none, placed-length, placed-before, Put}
 
 -- ---- what is left
 

@@ -15,7 +15,7 @@ use lib.Seq.{drop-cons, append-snoc}
 use Rattle.rules.specs.Streams.{Stream, streams}
 use Rattle.rules.specs.Refusals.{refused, done}
 use Rattle.rules.specs.Program.{newline, space, minus, printed-natural, printed-whole, ring-word, refused-word, printed-corners, printed}
-use Rattle.text.specs.Placed.{placed-none, Put, then, room-after, room-first}
+use Rattle.samples.specs.Placed.{placed-none, Put, then, room-after, room-first}
 
 -- ---- a whole number
 

@@ -9,7 +9,7 @@ ghost use Rattle.rules.specs.Lists.{written};
 ghost use Rattle.rules.specs.Streams.{streams};
 ghost use Rattle.rules.specs.Refusals.{refused, done};
 ghost use Rattle.rules.specs.Program.{printed-natural, printed-whole, printed-corners, printed};
-ghost use Rattle.text.specs.Placed.{Put};
+ghost use Rattle.samples.specs.Placed.{Put};
 ghost use Rattle.text.specs.PrintedCorners.{printed-corner};
 
 const NEWLINE: u8 = 10;

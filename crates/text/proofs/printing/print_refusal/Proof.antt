@@ -4,7 +4,7 @@ use native.Mathlib.Omega.{arith}
 use borrow.Author.Needs.{needs}
 use Rattle.rules.specs.Refusals.{refused}
 use Rattle.rules.specs.Program.{printed}
-use Rattle.text.specs.Placed.{then, put-length, at-front}
+use Rattle.samples.specs.Placed.{then, put-length, at-front}
 use Rattle.text.specs.PrintedCorners.{refusal-length}
 use Rattle.text.proofs.printing.print_refusal.Statement.{statement}
 use Rattle.text.proofs.printing.print_refusal.Tie as tie

@@ -9,7 +9,7 @@ use lib.ListN.{length}
 use Rattle.rules.specs.Streams.{Stream, streams}
 use Rattle.rules.specs.Refusals.{done}
 use Rattle.rules.specs.Program.{printed-natural, printed-corners, printed}
-use Rattle.text.specs.Placed.{then, put-length, at-front}
+use Rattle.samples.specs.Placed.{then, put-length, at-front}
 use Rattle.samples.specs.Samples.{streams-length}
 use Rattle.text.specs.PrintedCorners.{ring-length}
 use Rattle.text.proofs.printing.print_ring.Statement.{statement}

@@ -4,7 +4,7 @@ use Prim.Native.Nat.{_+_, _-_, _≤_}
 use native.Mathlib.Omega.{arith}
 use lib.ListN.{length, take}
 use lib.Seq.{take-all}
-use Rattle.text.specs.Placed.{Put, put-none, put-next, put-length}
+use Rattle.samples.specs.Placed.{Put, put-none, put-next, put-length}
 use Rattle.text.proofs.printing.put.Statement.{statement}
 use Rattle.text.proofs.printing.put.Tie as tie
 

@@ -2,7 +2,7 @@
 -- Assumes nothing.
 use native.Mathlib.Omega.{arith}
 use borrow.Author.Needs.{needs}
-use Rattle.text.specs.Placed.{put-one}
+use Rattle.samples.specs.Placed.{put-one}
 use Rattle.text.proofs.printing.put_byte.Statement.{statement}
 use Rattle.text.proofs.printing.put_byte.Tie as tie
 

@@ -4,7 +4,7 @@ use native.Mathlib.Omega.{arith}
 use borrow.Author.Needs.{needs}
 use Rattle.whole.specs.Fits.{cast}
 use Rattle.rules.specs.Program.{printed-whole}
-use Rattle.text.specs.Placed.{Put, then, put-length}
+use Rattle.samples.specs.Placed.{Put, then, put-length}
 use Rattle.text.specs.PrintedCorners.{corner-length}
 use Rattle.text.proofs.printing.put_corner.Statement.{statement}
 use Rattle.text.proofs.printing.put_corner.Tie as tie

@@ -8,7 +8,7 @@ use lib.ListN.{length, getD}
 use mir.Syntax.{w32}
 use mir.Val.{toZ, ofZ}
 use Rattle.whole.specs.Fits.{cast-read}
-use Rattle.text.specs.Placed.{put-length}
+use Rattle.samples.specs.Placed.{put-length}
 use Rattle.text.specs.PrintedCorners.{printed-corner, Lines, lines-none, lines-more, lines-all, line-room}
 use Rattle.text.proofs.printing.put_corners.Statement.{statement}
 use Rattle.text.proofs.printing.put_corners.Tie as tie

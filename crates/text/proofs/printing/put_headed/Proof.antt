@@ -1,7 +1,7 @@
 -- `text::printing::put_headed` meets its contract: its two runs one after the other.
 -- Assumes nothing.
 use borrow.Author.Needs.{needs}
-use Rattle.text.specs.Placed.{then}
+use Rattle.samples.specs.Placed.{then}
 use Rattle.text.proofs.printing.put_headed.Statement.{statement}
 use Rattle.text.proofs.printing.put_headed.Tie as tie
 

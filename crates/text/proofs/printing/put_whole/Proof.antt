@@ -8,7 +8,7 @@ use lib.IntN.{natAbs}
 use lib.ListN.{length}
 use Rattle.whole.specs.Fits.{cast}
 use Rattle.rules.specs.Program.{minus, printed-natural, printed-whole}
-use Rattle.text.specs.Placed.{then, put-length}
+use Rattle.samples.specs.Placed.{then, put-length}
 use Rattle.text.specs.PrintedCorners.{whole-negative, whole-other}
 use Rattle.text.proofs.printing.put_whole.Statement.{statement}
 use Rattle.text.proofs.printing.put_whole.Tie as tie
