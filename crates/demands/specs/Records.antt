@@ -1,12 +1,10 @@
 -- The record reader, over the promise of the entry: a call that is done leaves the record's corners, which are an envelope, at the front of both outputs. A
 -- call is any that the entry's own promise allows. Assumes nothing.
 use mathlib.Core.Path.{_≡_, sym, ap, _∙_}
-use mathlib.Core.Bool.{true, not, _||_}
-use mathlib.Core.List.{List, [], _∷_}
-use Prim.Native.Nat.{ℕ, _-_, _%_}
+use mathlib.Core.Bool.{true}
+use mathlib.Core.List.{List}
+use Prim.Native.Nat.{ℕ}
 use lib.IntN.{ℤ}
-use lib.Dec.{ltb, eqb}
-use lib.ListN.{length}
 use contract.Lifetimes.{Lfts}
 use denote.Ref.{now}
 use denote.Triple.Clauses.{AtExit}
@@ -14,9 +12,8 @@ use borrow.Fn.Kinds.{Dens, endedOf}
 use borrow.Author.Tests.{not-false}
 use Rattle.rules.specs.Streams.{Stream}
 use Rattle.rules.specs.Use.{envelope}
-use Rattle.rules.specs.Record.{version, said-length}
-use Rattle.rules.specs.Refusals.{test, too-many, part-beyond}
-use Rattle.rules.specs.Entries.{ring-short, record-corners, record-answer}
+use Rattle.rules.specs.Record.{record-corners}
+use Rattle.rules.specs.Entries.{record-tests, record-answer}
 use Rattle.samples.specs.CountedAnswers.{counted-as}
 use Rattle.samples.specs.declared.answers.Counted.{Counted}
 use Rattle.samples.specs.declared.answers.Counted.the-variants as counts
@@ -62,14 +59,7 @@ reading-done c {n} e =
     let bs = bytes c in
     let r = corners c in
     let d = ring-left
-    (test 17 0 (eqb (length bs) 0)
-    ∷ test 16 0 (not (eqb (version bs) 1))
-    ∷ test 17 0 (ltb (length bs) 5 || not (eqb (said-length bs % 8) 0) || not (eqb (said-length bs) (length bs - 5)))
-    ∷ too-many (length r)
-    ∷ part-beyond r
-    ∷ test 9 0 (not (envelope r))
-    ∷ ring-short (east-before c) (north-before c) r
-    ∷ [])
+    (record-tests bs (east-before c) (north-before c))
     r
     (east-before c)
     (north-before c)

@@ -1,4 +1,3 @@
 pub mod RecordAnswers
-pub mod RecordCorners
 pub mod RecordWritten
 pub mod ReadTests

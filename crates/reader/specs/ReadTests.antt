@@ -12,9 +12,9 @@ use lib.ListN.{length}
 use Rattle.rules.specs.Lists.{some-of, first-place}
 use Rattle.rules.specs.Streams.{Stream, most, beyond}
 use Rattle.rules.specs.Use.{envelope}
-use Rattle.rules.specs.Record.{version}
+use Rattle.rules.specs.Record.{known-version, head-size, version, record-corners}
 use Rattle.rules.specs.Refusals.{Answer, refused, done, Test, test, unless, too-many, part-beyond}
-use Rattle.rules.specs.Entries.{record-corners, record-answer, ring-short}
+use Rattle.rules.specs.Entries.{record-answer, ring-short}
 use Rattle.samples.specs.Scans.{some-by-place}
 use Rattle.samples.specs.Tests.{refuses, passes}
 use Rattle.reader.specs.RecordAnswers.{frame-number, misframed}
@@ -51,14 +51,14 @@ module _ (bs : List ℕ) (es ns : List ℤ) where
   pub refused-frame : (k : ℕ) → k ≡ frame-number bs → (k ≡ 0 → ⊥) → record-answer bs es ns ≡ refused k 0
   unfolding record-answer frame-number corners last-tests
   refused-frame k e h =
-      one-holds (eqb (length bs) 0) (not (eqb (version bs) 1)) (misframed bs) k
+      one-holds (eqb (length bs) 0) (not (eqb (version bs) known-version)) (misframed bs) k
       (unless (too-many (length corners) ∷ part-beyond corners ∷ last-tests) corners) e h
 
   module _ (framed : 0 ≡ frame-number bs) where
     good-frame : record-answer bs es ns ≡ unless (too-many (length corners) ∷ part-beyond corners ∷ last-tests) corners
     unfolding record-answer frame-number corners last-tests
     good-frame =
-        none-holds (eqb (length bs) 0) (not (eqb (version bs) 1)) (misframed bs)
+        none-holds (eqb (length bs) 0) (not (eqb (version bs) known-version)) (misframed bs)
         (unless (too-many (length corners) ∷ part-beyond corners ∷ last-tests) corners)
         framed .0
 
@@ -105,14 +105,14 @@ module _ (bs : List ℕ) (es ns : List ℤ) where
 
 -- ---- what a good frame says
 
-pub long-enough : (bs : List ℕ) → 0 ≡ frame-number bs → 5 ≤ length bs
+pub long-enough : (bs : List ℕ) → 0 ≡ frame-number bs → head-size ≤ length bs
 unfolding frame-number
 long-enough bs e =
-    go (ltb (length bs) 5) refl (none-holds (eqb (length bs) 0) (not (eqb (version bs) 1)) (misframed bs) (done bs) e .1)
+    go (ltb (length bs) head-size) refl (none-holds (eqb (length bs) 0) (not (eqb (version bs) known-version)) (misframed bs) (done bs) e .1)
   where
-    go : (t : Bool) → ltb (length bs) 5 ≡ t → misframed bs ≡ false → 5 ≤ length bs
+    go : (t : Bool) → ltb (length bs) head-size ≡ t → misframed bs ≡ false → head-size ≤ length bs
     go true q h = absurd (true≢false (rw q at h))
-    go false q h = ltb-false (length bs) 5 q
+    go false q h = ltb-false (length bs) head-size q
 
 -- a first place that is the count is none
 pub none-beyond : (xs : List Stream) (place : ℕ) → place ≡ first-place beyond xs → length xs ≤ place → some-of beyond xs ≡ false

@@ -4,7 +4,7 @@
 use mathlib.Core.Bool.{Bool, true, false, not, _&&_, _||_}
 use mathlib.Core.Option.{Option, none, some}
 use mathlib.Core.List.{List, [], _∷_, _++_, map}
-use Prim.Native.Nat.{ℕ, _+_, _-_, _/_, _%_}
+use Prim.Native.Nat.{ℕ, _+_, _-_, _%_}
 use lib.IntN.{ℤ, pos}
 use lib.Dec.{leb, ltb, eqb}
 use lib.Ieee.{Float}
@@ -19,7 +19,7 @@ use Rattle.rules.specs.Bridge.{Bridge, ends, bridge, spans, reported}
 use Rattle.rules.specs.Round.{Said, found, kept, round}
 use Rattle.rules.specs.Use.{envelope, HandAt, hand-for, next-place, moved-on, strongest, strongest-place, covers, join, turn-about}
 use Rattle.rules.specs.Door.{Readings, taken, bad, bad-float, readings}
-use Rattle.rules.specs.Record.{version, said-length, corners-at}
+use Rattle.rules.specs.Record.{known-version, head-size, corner-size, version, said-length, record-corners, record-of}
 use Rattle.rules.specs.Refusals.{Answer, refused, done, Test, test, unless, lengths-differ, too-many, part-beyond, single-beyond, scratch-short, output-short, ring-tests, not-envelope}
 
 abbrev pub is-none : {A : Type 0} → Option A → Bool
@@ -114,7 +114,7 @@ abbrev pub norths : List Stream → List ℤ
 norths r = map (λ s. s .north) r
 
 -- an answer whose list lies in the outputs says its count
-abbrev pub counted : Answer (List Stream) → Answer ℕ
+abbrev pub counted : {A : Type 0} → Answer (List A) → Answer ℕ
 counted (refused number place) = refused number place
 counted (done r) = done (length r)
 
@@ -227,19 +227,24 @@ door-output-after parts (door-refused-float k i f) old = old
 
 -- ---- record reader: 17 if empty, 16, 17, 2, 3, 9, 5
 
-unfoldable pub record-corners : List ℕ → List Stream
-record-corners bs = corners-at ((length bs - 5) / 8) bs 5
-
-unfoldable pub record-answer : List ℕ → List ℤ → List ℤ → Answer (List Stream)
-record-answer bs east north =
+abbrev pub record-tests : List ℕ → List ℤ → List ℤ → List Test
+record-tests bs east north =
     let r = record-corners bs in
-    unless
-    (test 17 0 (eqb (length bs) 0)
-    ∷ test 16 0 (not (eqb (version bs) 1))
-    ∷ test 17 0 (ltb (length bs) 5 || not (eqb (said-length bs % 8) 0) || not (eqb (said-length bs) (length bs - 5)))
+    test 17 0 (eqb (length bs) 0)
+    ∷ test 16 0 (not (eqb (version bs) known-version))
+    ∷ test 17 0 (ltb (length bs) head-size || not (eqb (said-length bs % corner-size) 0) || not (eqb (said-length bs) (length bs - head-size)))
     ∷ too-many (length r)
     ∷ part-beyond r
     ∷ test 9 0 (not (envelope r))
     ∷ ring-short east north r
-    ∷ [])
-    r
+    ∷ []
+
+unfoldable pub record-answer : List ℕ → List ℤ → List ℤ → Answer (List Stream)
+record-answer bs east north = unless (record-tests bs east north) (record-corners bs)
+
+-- ---- record writer: 1, 2, 3, 9, 5
+
+unfoldable pub write-answer : List ℤ → List ℤ → List ℕ → Answer (List ℕ)
+write-answer es ns out =
+    let bs = record-of (streams es ns) in
+    unless (ring-tests es ns ++ (not-envelope es ns ∷ output-short (ltb (length out) (length bs)) ∷ [])) bs

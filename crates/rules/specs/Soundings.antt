@@ -1,5 +1,5 @@
 -- The soundings that the rules mark P, as one table under a single claim, computed from the definitions; the rules' easy slips, each shut out by an
--- example; and the rules' text example with its output.
+-- example; the rules' text example with its output; and records as they are written.
 -- Assumes nothing.
 use mathlib.Core.Path.{_≡_, refl}
 use mathlib.Core.Bool.{true, false}
@@ -17,8 +17,9 @@ use Rattle.rules.specs.Step.{cut, left-list, right-list, first-list, cut
 use Rattle.rules.specs.Bridge.{ends, edge-over, bridge, spans, reported}
 use Rattle.rules.specs.Round.{Slope, Said, found, kept, slope-le, height, middle-slope, paired, slopes, keep, left-top, right-top, round-with, round}
 use Rattle.rules.specs.Use.{envelope, set-on, strongest, strongest-place, between, beside, covers, join, turn-about}
+use Rattle.rules.specs.Record.{word, twos, corners-at, record-corners, word-of, corners-bytes, record-of}
 use Rattle.rules.specs.Refusals.{Answer, refused, done}
-use Rattle.rules.specs.Entries.{bridge-answer, round-answer, strongest-answer, cover-answer}
+use Rattle.rules.specs.Entries.{bridge-answer, round-answer, strongest-answer, cover-answer, record-answer, write-answer}
 use Rattle.rules.specs.Program.{decimal, unsigned, number, cut-at, line, text, samples, digits, printed-natural, printed-whole, printed-corners, printed, program}
 
 -- ---- input A, and enough scratch for it
@@ -181,3 +182,39 @@ pub record Texts : Type 0 where
 pub texts : Texts
 unfolding A-text those some-of all-of first-place best-from best within beyond same side leftmost left-end furthest-round next-corner corners upper lower closed ring decimal unsigned number cut-at line text samples digits printed-natural printed-whole printed-corners printed program
 texts = record { whole = refl; empty = refl; third = refl; text-first = refl }
+
+-- ---- records
+
+-- the ring (0, 3), (2, -1), and its record
+unfoldable pub pair-easts : List ℤ
+pair-easts = pos 0 ∷ pos 2 ∷ []
+
+unfoldable pub pair-norths : List ℤ
+pair-norths = pos 3 ∷ negsuc 0 ∷ []
+
+unfoldable pub pair-record : List ℕ
+pair-record = 1 ∷ 0 ∷ 0 ∷ 0 ∷ 16 ∷ 0 ∷ 0 ∷ 0 ∷ 0 ∷ 0 ∷ 0 ∷ 0 ∷ 3 ∷ 0 ∷ 0 ∷ 0 ∷ 2 ∷ 255 ∷ 255 ∷ 255 ∷ 255 ∷ []
+
+-- into outputs that are just long enough, and a byte short; the refusals in their order, each where a later one holds too; and the record read again
+pub record Records : Type 0 where
+  pub empty : write-answer [] [] (replicate 5 9) ≡ done (1 ∷ 0 ∷ 0 ∷ 0 ∷ 0 ∷ [])
+  pub empty-short : write-answer [] [] (replicate 4 9) ≡ refused 5 0
+  pub pair : write-answer pair-easts pair-norths (replicate 21 9) ≡ done pair-record
+  pub pair-short : write-answer pair-easts pair-norths (replicate 20 9) ≡ refused 5 0
+  pub turned-round : write-answer (pos 2 ∷ pos 0 ∷ []) (negsuc 0 ∷ pos 3 ∷ []) [] ≡ refused 9 0
+  pub beyond-first : write-answer (pos 0 ∷ pos 1000001 ∷ pos 0 ∷ []) (pos 0 ∷ pos 0 ∷ pos 0 ∷ []) [] ≡ refused 3 1
+  pub lengths-first : write-answer (pos 0 ∷ pos 1000001 ∷ []) (pos 0 ∷ []) [] ≡ refused 1 0
+  pub read-again : record-answer pair-record (pos 7 ∷ pos 7 ∷ []) (pos 7 ∷ pos 7 ∷ []) ≡ done (streams pair-easts pair-norths)
+
+pub records : Records
+unfolding pair-easts pair-norths pair-record those some-of all-of first-place best-from best alike streams within beyond same side leftmost left-end furthest-round next-corner corners upper lower closed ring envelope word twos corners-at record-corners word-of corners-bytes record-of record-answer write-answer
+records = record {
+  empty = refl;
+  empty-short = refl;
+  pair = refl;
+  pair-short = refl;
+  turned-round = refl;
+  beyond-first = refl;
+  lengths-first = refl;
+  read-again = refl;
+}

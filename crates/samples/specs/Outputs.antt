@@ -11,7 +11,7 @@ use Rattle.rules.specs.Refusals.{Answer, refused, done}
 use Rattle.rules.specs.Entries.{easts, norths, counted}
 
 -- a done count comes of a done answer
-pub counted-done : (a : Answer (List Stream)) {n : ℕ} → done n ≡ counted a → (r : List Stream) × (a ≡ done r) × (n ≡ length r)
+pub counted-done : {A : Type 0} (a : Answer (List A)) {n : ℕ} → done n ≡ counted a → (r : List A) × (a ≡ done r) × (n ≡ length r)
 counted-done (done r) e = (r, refl, cc)
 counted-done (refused number place) e = absurd (let z : _≡_ {A = ℕ} 0 1 = cc in omega arith)
 

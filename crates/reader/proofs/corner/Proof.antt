@@ -9,7 +9,7 @@ use Rattle.whole.specs.Fits.{cast-read}
 use lib.ListN.{length}
 use Rattle.rules.specs.Streams.{stream}
 use Rattle.rules.specs.Record.{twos}
-use Rattle.reader.specs.RecordCorners.{record-count, record-sample}
+use Rattle.laws_records.specs.RecordCorners.{record-count, record-sample}
 use Rattle.reader.proofs.corner.Statement.{statement}
 use Rattle.reader.proofs.corner.Tie as tie
 

@@ -6,7 +6,7 @@ use native.Mathlib.Omega.{arith}
 use borrow.Author.Needs.{needs}
 use lib.IntN.{pos}
 use Rattle.rules.specs.Streams.{stream, sample, beyond}
-use Rattle.rules.specs.Entries.{record-corners}
+use Rattle.rules.specs.Record.{record-corners}
 use Rattle.samples.specs.Scans.{Passed, passed-none, passed-more, passed-here, passed-all}
 use Rattle.reader.proofs.first_beyond.Statement.{statement}
 use Rattle.reader.proofs.first_beyond.Tie as tie

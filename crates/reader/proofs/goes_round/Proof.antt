@@ -5,7 +5,7 @@ use mathlib.Core.Bool.{Bool, _&&_}
 use Prim.Native.Nat.{_-_, _≤_, _+_}
 use native.Mathlib.Omega.{arith}
 use borrow.Author.Tests.{not-true, not-false}
-use Rattle.rules.specs.Entries.{record-corners}
+use Rattle.rules.specs.Record.{record-corners}
 use Rattle.laws_neighbours.specs.NeighbourTest.{turns, closes}
 use Rattle.envelope.specs.RoundTheRing.{round-from, round-more, round-end}
 use Rattle.reader.specs.RecordAnswers.{read-near}

@@ -7,7 +7,7 @@ use borrow.Author.Needs.{needs}
 use lib.Signed.{ltZ}
 use Rattle.rules.specs.Streams.{Stream, sample}
 use Rattle.rules.specs.Chain.{leftmost}
-use Rattle.rules.specs.Entries.{record-corners}
+use Rattle.rules.specs.Record.{record-corners}
 use Rattle.laws_neighbours.specs.Recognised.{recognised}
 use Rattle.samples.specs.StreamWords.{read, held}
 use Rattle.envelope.specs.RoundTheRing.{round-from, few-pass, two-pass, more-pass}

@@ -1,18 +1,18 @@
 -- `reader::part` meets its contract: in 64 bits the difference fits, and it is a number of 32 bits.
 -- Assumes nothing.
-use mathlib.Core.Path.{_≡_, refl, sym, ap, _∙_}
+use mathlib.Core.Path.{_≡_, sym, ap, _∙_}
 use mathlib.Core.List.{[], _∷_}
-use Prim.Native.Nat.{ℕ, _-_, _^_, _≤_, _<_}
+use Prim.Native.Nat.{ℕ, _-_, _^_, _<_}
 use native.Mathlib.Omega.{arith}
 use borrow.Author.Needs.{needs}
-use borrow.Author.Tests.{lt-ltb, le-ltb}
+use borrow.Author.Tests.{lt-ltb}
 use lib.IntN.{ℤ, pos, negsuc, _-ℤ_}
 use mir.Syntax.{w32, w64}
 use mir.Val.{SFits, toZ, ofZ}
 use mir.Facts.{toZ-pos, toZ-ofZ}
 use Rattle.whole.specs.Solver.{var, num, _⊖_}
 use Rattle.whole.specs.Fits.{Within, Bounded, []ʷ, _∷ʷ_, step-fits, word-is}
-use Rattle.rules.specs.Record.{twos}
+use Rattle.laws_records.specs.Words.{twos-low, twos-high}
 use Rattle.reader.proofs.part.Statement.{statement}
 use Rattle.reader.proofs.part.Tie as tie
 
@@ -25,14 +25,6 @@ leaves w h = near ∷ʷ []ʷ
 difference : (w : ℕ) → w < 2 ^ 32 → pos w -ℤ pos 4294967296 ≡ negsuc (4294967295 - w)
 difference w h = rw (lt-ltb w 4294967296 h) (ap negsuc (omega arith))
 
-low : (w : ℕ) → w < 2 ^ 31 → twos w ≡ pos w
-unfolding twos
-low w h = rw (lt-ltb w (2 ^ 31) h) refl
-
-high : (w : ℕ) → 2 ^ 31 ≤ w → twos w ≡ negsuc (4294967295 - w)
-unfolding twos
-high w h = rw (le-ltb w (2 ^ 31) h) refl
-
 -- what the difference is read as
 value : (c : tie.Else1) → toZ w64 (ofZ w64 (toZ w64 (c .before .args .w) -ℤ pos 4294967296)) ≡ negsuc (4294967295 - c .before .args .w)
 value c =
@@ -44,11 +36,11 @@ fits : (c : tie.Else1) → SFits w32 (negsuc (4294967295 - c .before .args .w))
 fits c = record { sfits = omega (arith, c .if1 .left) }
 
 returns : tie.Need-returns
-returns c = toZ-pos w32 (c .if1 .taken) ∙ sym (low (c .before .args .w) (c .if1 .taken))
+returns c = toZ-pos w32 (c .if1 .taken) ∙ sym (twos-low (c .before .args .w) (c .if1 .taken))
 
 returns-2 : tie.Need-returns-2
 returns-2 c =
-    ap (λ (z : ℤ). toZ w32 (ofZ w32 z)) (value c) ∙ toZ-ofZ (fits c) ∙ sym (high (c .before .args .w) (c .if1 .left))
+    ap (λ (z : ℤ). toZ w32 (ofZ w32 z)) (value c) ∙ toZ-ofZ (fits c) ∙ sym (twos-high (c .before .args .w) (c .if1 .left))
 
 pub part-spec : {M : Type 1} → statement M
 part-spec =

@@ -12,11 +12,11 @@ use Rattle.rules.specs.Lists.{some-of}
 use Rattle.rules.specs.Streams.{most, beyond}
 use Rattle.rules.specs.Use.{envelope}
 use Rattle.rules.specs.Refusals.{done}
-use Rattle.rules.specs.Entries.{record-corners}
+use Rattle.rules.specs.Record.{record-corners}
 use Rattle.samples.specs.Samples.{sample-near}
 use Rattle.samples.specs.Tests.{fits-both}
 use Rattle.reader.specs.RecordAnswers.{frame-number}
-use Rattle.reader.specs.RecordCorners.{record-count}
+use Rattle.laws_records.specs.RecordCorners.{record-count}
 use Rattle.reader.specs.ReadTests.{refused-frame, refused-2, refused-3, refused-9, short, answered, long-enough, none-beyond}
 use Rattle.reader.proofs.read_record.Statement.{statement}
 use Rattle.reader.proofs.read_record.Tie as tie

@@ -9,7 +9,7 @@ use lib.IntN.{ℤ}
 use lib.ListN.{length, set}
 use Rattle.whole.specs.Fits.{cast-read}
 use Rattle.rules.specs.Streams.{Stream}
-use Rattle.rules.specs.Entries.{record-corners}
+use Rattle.rules.specs.Record.{record-corners}
 use Rattle.reader.specs.RecordWritten.{parts-so-far, parts-length, parts-more, parts-all}
 use Rattle.reader.proofs.write.Statement.{statement}
 use Rattle.reader.proofs.write.Tie as tie

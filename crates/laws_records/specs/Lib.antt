@@ -1,0 +1,4 @@
+pub mod Words
+pub mod RecordCorners
+pub mod Layout
+pub mod OneRecord

@@ -1,0 +1,1 @@
+// Laws of records. There is no code here: all of it stands in specs/.
