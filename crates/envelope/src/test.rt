@@ -69,7 +69,7 @@ fn goes_round(east: &[i32], north: &[i32]) -> bool
 }
 
 // The ring equals the ring of its own positions.
-fn is_envelope(east: &[i32], north: &[i32]) -> bool
+pub fn is_envelope(east: &[i32], north: &[i32]) -> bool
     requires { ⌜ Sampled (now east) (now north) ⌝ }
     ensures { λ r. ⌜ r ≡ envelope (streams (now (east .entry)) (now (north .entry))) ⌝ }
 {
