@@ -13,7 +13,7 @@ use Rattle.rules.specs.Streams.{streams}
 use Rattle.rules.specs.Refusals.{refused, done, output-after}
 use Rattle.rules.specs.Door.{part, readings}
 use Rattle.rules.specs.Program.{printed}
-use Rattle.rules.specs.Entries.{ring-answer, join-answer, strongest-answer, cover-answer, hand-answer, hand-step-answer, hand-after, door-answer, door-output-after, taken-east, taken-north, record-answer, counted, easts, norths}
+use Rattle.rules.specs.Entries.{ring-answer, join-answer, strongest-answer, cover-answer, hand-answer, hand-step-answer, hand-after, door-answer, door-output-after, taken-east, taken-north, record-answer, write-answer, counted, easts, norths}
 use Rattle.picker.specs.Promise.{PickPromise}
 use Rattle.picker.specs.declared.Picked.{Picked}
 use Rattle.chains.specs.Promise.{ChainsPromise}
@@ -63,6 +63,8 @@ use Rattle.door.proofs.take_readings.Kinds as readings-kinds
 use Rattle.door.proofs.take_readings.Reads as readings-reads
 use Rattle.reader.proofs.read_record.Kinds as record-kinds
 use Rattle.reader.proofs.read_record.Reads as record-reads
+use Rattle.writer.proofs.write_record.Kinds as write-kinds
+use Rattle.writer.proofs.write_record.Reads as write-reads
 use Rattle.text.proofs.reading.samples.Kinds as samples-kinds
 use Rattle.text.proofs.reading.samples.Reads as samples-reads
 use Rattle.text.proofs.printing.print_ring.Kinds as print-ring-kinds
@@ -122,6 +124,9 @@ pub record Contracts : Type 1 where
       record-reads.Post κs a r s
       ≡ ((counted-as r ≡ counted answer)
       × ((now (s .1 .0) ≡ output-after easts answer (now (a .1 .0))) × (now (s .1 .1 .0) ≡ output-after norths answer (now (a .1 .1 .0)))))
+  pub of-write-record : (κs : Lfts 3) (a : Dens κs write-kinds.ps) (r : Counted) (s : AtExit (endedOf 3 write-kinds.ps write-kinds.r) κs) →
+      let answer = write-answer (now (a .0)) (now (a .1 .0)) (now (a .1 .1 .0)) in
+      write-reads.Post κs a r s ≡ ((counted-as r ≡ counted answer) × (now (s .1 .1 .0) ≡ output-after (λ bs. bs) answer (now (a .1 .1 .0))))
   pub of-samples : (κs : Lfts 3) (a : Dens κs samples-kinds.ps) (r : Counted) (s : AtExit (endedOf 3 samples-kinds.ps samples-kinds.r) κs) →
       let answer = samples-answer (now (a .0)) (now (a .1 .0)) (now (a .1 .1 .0)) in
       samples-reads.Post κs a r s
@@ -150,6 +155,7 @@ contracts = record {
   of-part = λ κs a r s. refl;
   of-take-readings = λ κs a r s. refl;
   of-read-record = λ κs a r s. refl;
+  of-write-record = λ κs a r s. refl;
   of-samples = λ κs a r s. refl;
   of-print-ring = λ κs a r s. refl;
   of-print-refusal = λ κs a r s. refl;

@@ -12,6 +12,14 @@ pub use Rattle.laws_refusals.specs.NoneHold.{None-hold, when-done, not-refused}
 use Rattle.samples.specs.Samples.{streams-length, streams-easts, streams-norths}
 use Rattle.samples.specs.Outputs.{counted-done, front, streams-parts}
 
+-- an entry that tells the count of what it writes, and is done
+pub counted-left : {A : Type 0} (ts : List Test) (x : List A) {n : ℕ} → done n ≡ counted (unless ts x) →
+    None-hold ts × (unless ts x ≡ done x) × (n ≡ length x)
+counted-left {A} ts x {n} told = go (counted-done (unless ts x) told)
+  where
+    go : (y : List A) × (unless ts x ≡ done y) × (n ≡ length y) → None-hold ts × (unless ts x ≡ done x) × (n ≡ length x)
+    go (y, a, h) = let says = when-done ts x a in (says .0, a ∙ ap done (sym (says .1)), h ∙ ap length (sym (says .1)))
+
 -- ---- a ring that is written
 
 -- the ring r stands at the front of two outputs, n corners
@@ -23,24 +31,19 @@ pub record Left (r : List Stream) (n : ℕ) (east north : List ℤ) : Type 0 whe
 -- the tests ts, then the ring r: what is told is its count, and what is left of the outputs is what the rules say
 pub ring-left : (ts : List Test) (r : List Stream) (east north : List ℤ) {n : ℕ} {east' north' : List ℤ} → done n ≡ counted (unless ts r)
     → east' ≡ output-after easts (unless ts r) east → north' ≡ output-after norths (unless ts r) north → None-hold ts × Left r n east' north'
-ring-left ts r east north {n} {east'} {north'} told e f = go (counted-done (unless ts r) told)
-  where
-    go : (t : List Stream) × (unless ts r ≡ done t) × (n ≡ length t) → None-hold ts × Left r n east' north'
-    go (t, a, h) =
-        let says = when-done ts r a in
-        let answered : unless ts r ≡ done r = a ∙ ap done (sym (says .1)) in
-        let many : length r ≡ n = ap length (says .1) ∙ sym h in (
-          says .0,
-          record {
-            count = sym many;
-            easts-left =
-                ap (take n) (e ∙ ap (λ (t : Answer (List Stream)). output-after easts t east) answered) ∙
-                front (easts r) east n (length-map r (λ s. s .east) ∙ many);
-            norths-left =
-                ap (take n) (f ∙ ap (λ (t : Answer (List Stream)). output-after norths t north) answered) ∙
-                front (norths r) north n (length-map r (λ s. s .north) ∙ many);
-          },
-        )
+ring-left ts r east north {n} told e f =
+    let (none, answered, count) = counted-left ts r told in (
+      none,
+      record {
+        count = count;
+        easts-left =
+            ap (take n) (e ∙ ap (λ (t : Answer (List Stream)). output-after easts t east) answered) ∙
+            front (easts r) east n (length-map r (λ s. s .east) ∙ sym count);
+        norths-left =
+            ap (take n) (f ∙ ap (λ (t : Answer (List Stream)). output-after norths t north) answered) ∙
+            front (norths r) north n (length-map r (λ s. s .north) ∙ sym count);
+      },
+    )
 
 module _ {r : List Stream} {n : ℕ} {east north : List ℤ} (l : Left r n east north) where
   pub left-even : length (take n east) ≡ length (take n north)

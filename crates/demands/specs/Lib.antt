@@ -2,6 +2,7 @@ pub mod Done
 pub mod Chains
 pub mod Ringed
 pub mod Records
+pub mod Written
 pub mod Joined
 pub mod RingTurned
 pub mod SamplesTurned

@@ -1,25 +1,28 @@
 -- The record reader, over the promise of the entry: a call that is done leaves the record's corners, which are an envelope, at the front of both outputs. A
 -- call is any that the entry's own promise allows. Assumes nothing.
 use mathlib.Core.Path.{_≡_, sym, ap, _∙_}
-use mathlib.Core.Bool.{true}
+use mathlib.Core.Bool.{true, false}
 use mathlib.Core.List.{List}
-use Prim.Native.Nat.{ℕ}
+use Prim.Native.Nat.{ℕ, _≤_}
 use lib.IntN.{ℤ}
+use lib.ListN.{length}
 use contract.Lifetimes.{Lfts}
 use denote.Ref.{now}
 use denote.Triple.Clauses.{AtExit}
 use borrow.Fn.Kinds.{Dens, endedOf}
-use borrow.Author.Tests.{not-false}
-use Rattle.rules.specs.Streams.{Stream}
+use borrow.Author.Tests.{ltb-false, not-false}
+use Rattle.rules.specs.Lists.{some-of}
+use Rattle.rules.specs.Streams.{Stream, most, beyond}
 use Rattle.rules.specs.Use.{envelope}
 use Rattle.rules.specs.Record.{record-corners}
+use Rattle.rules.specs.Refusals.{done}
 use Rattle.rules.specs.Entries.{record-tests, record-answer}
 use Rattle.samples.specs.CountedAnswers.{counted-as}
 use Rattle.samples.specs.declared.answers.Counted.{Counted}
 use Rattle.samples.specs.declared.answers.Counted.the-variants as counts
 use Rattle.reader.proofs.read_record.Kinds as kinds
 use Rattle.reader.proofs.read_record.Reads as reads
-use Rattle.demands.specs.Done.{Left, ring-left}
+use Rattle.demands.specs.Done.{not-refused, Left, ring-left}
 
 -- a call of the reader
 pub record Reading : Type 1 where
@@ -50,20 +53,25 @@ north-after c = now (c .left .1 .1 .0)
 
 -- what a call that is done did
 pub record Read-up (c : Reading) (n : ℕ) : Type 0 where
+  pub answered : record-answer (bytes c) (east-before c) (north-before c) ≡ done (corners c)
+  pub few : length (corners c) ≤ most
+  pub near : some-of beyond (corners c) ≡ false
   pub ring-read : envelope (corners c) ≡ true
   pub left : Left (corners c) n (east-after c) (north-after c)
 
 pub reading-done : (c : Reading) {n : ℕ} → c .answer ≡ counts.Count n → Read-up c n
 unfolding record-answer
 reading-done c {n} e =
-    let bs = bytes c in
-    let r = corners c in
-    let d = ring-left
-    (record-tests bs (east-before c) (north-before c))
-    r
-    (east-before c)
-    (north-before c)
+    let ts = record-tests (bytes c) (east-before c) (north-before c) in
+    let d = ring-left ts (corners c) (east-before c) (north-before c)
     (sym (ap counted-as e) ∙ c .promised .0)
     (c .promised .1 .0)
     (c .promised .1 .1) in
-    record { ring-read = not-false _ (d .0 .1 .1 .1 .1 .1 .0); left = d .1 }
+    let tests = d .0 .1 .1 .1 in
+    record {
+      answered = not-refused ts (corners c) (d .0);
+      few = ltb-false most (length (corners c)) (tests .0);
+      near = tests .1 .0;
+      ring-read = not-false _ (tests .1 .1 .0);
+      left = d .1;
+    }
