@@ -8,7 +8,7 @@ use denote.Triple.Clauses.{AtExit}
 use borrow.Fn.Kinds.{Dens, endedOf}
 use Rattle.rules.specs.Refusals.{output-after, scratch-after}
 use Rattle.rules.specs.Door.{part, readings}
-use Rattle.rules.specs.Entries.{pick-answer, round-answer, kept-list, bridge-answer, chains-answer, ring-answer, hand-answer, hand-step-answer, strongest-answer, cover-answer, join-answer, turn-answer, door-answer, door-output-after, taken-east, taken-north, record-answer}
+use Rattle.rules.specs.Entries.{pick-answer, round-answer, kept-list, bridge-answer, chains-answer, ring-answer, hand-answer, hand-step-answer, strongest-answer, cover-answer, join-answer, turn-answer, door-answer, door-output-after, taken-east, taken-north, record-answer, write-answer}
 use Rattle.exports.specs.Picks.{picked-face}
 use Rattle.exports.specs.Rounds.{round-face}
 use Rattle.exports.specs.Bridges.{bridge-face}
@@ -55,6 +55,8 @@ use Rattle.exports.proofs.doors.nuoskelma_readings.Kinds as readings-ki
 use Rattle.exports.proofs.doors.nuoskelma_readings.Reads as readings-reads
 use Rattle.exports.proofs.records.nuoskelma_record.Kinds as record-kinds
 use Rattle.exports.proofs.records.nuoskelma_record.Reads as record-reads
+use Rattle.exports.proofs.records.nuoskelma_write_record.Kinds as write-kinds
+use Rattle.exports.proofs.records.nuoskelma_write_record.Reads as write-reads
 
 pub record Contracts : Type 1 where
   pub of-pick : (κs : Lfts 2) (a : Dens κs pick-kinds.ps) (r : PickedC) (s : AtExit (endedOf 2 pick-kinds.ps pick-kinds.r) κs) →
@@ -120,6 +122,9 @@ pub record Contracts : Type 1 where
       ≡ ((r ≡ counted-face answer)
       × ((now (s .1 .0) ≡ output-after parts-east answer (now (a .1 .0)))
       × (now (s .1 .1 .0) ≡ output-after parts-north answer (now (a .1 .1 .0)))))
+  pub of-write-record : (κs : Lfts 3) (a : Dens κs write-kinds.ps) (r : CountedC) (s : AtExit (endedOf 3 write-kinds.ps write-kinds.r) κs) →
+      let answer = write-answer (now (a .0)) (now (a .1 .0)) (now (a .1 .1 .0)) in
+      write-reads.Post κs a r s ≡ ((r ≡ counted-face answer) × (now (s .1 .1 .0) ≡ output-after (λ bs. bs) answer (now (a .1 .1 .0))))
 
 pub contracts : Contracts
 contracts = record {
@@ -137,4 +142,5 @@ contracts = record {
   of-part = λ κs a r s. refl;
   of-readings = λ κs a r s. refl;
   of-record = λ κs a r s. refl;
+  of-write-record = λ κs a r s. refl;
 }

@@ -45,6 +45,8 @@ use Rattle.exports.proofs.doors.nuoskelma_readings.Kinds as readings-ki
 use Rattle.exports.proofs.doors.nuoskelma_readings.Reads as readings-reads
 use Rattle.exports.proofs.records.nuoskelma_record.Kinds as record-kinds
 use Rattle.exports.proofs.records.nuoskelma_record.Reads as record-reads
+use Rattle.exports.proofs.records.nuoskelma_write_record.Kinds as write-kinds
+use Rattle.exports.proofs.records.nuoskelma_write_record.Reads as write-reads
 
 pub pick-one : (κs : Lfts 2) (a : Dens κs pick-kinds.ps) (r r' : PickedC) (s s' : AtExit (endedOf 2 pick-kinds.ps pick-kinds.r) κs) →
     pick-reads.Post κs a r s → pick-reads.Post κs a r' s' → (r ≡ r') × (now (s .1 .1 .0) ≡ now (s' .1 .1 .0))
@@ -110,3 +112,7 @@ readings-one κs a r r' s s' p q = (p .0 ∙ sym (q .0), p .1 .0 ∙ sym (q .1 .
 pub record-one : (κs : Lfts 3) (a : Dens κs record-kinds.ps) (r r' : CountedC) (s s' : AtExit (endedOf 3 record-kinds.ps record-kinds.r) κs) →
     record-reads.Post κs a r s → record-reads.Post κs a r' s' → (r ≡ r') × (now (s .1 .0) ≡ now (s' .1 .0)) × (now (s .1 .1 .0) ≡ now (s' .1 .1 .0))
 record-one κs a r r' s s' p q = (p .0 ∙ sym (q .0), p .1 .0 ∙ sym (q .1 .0), p .1 .1 ∙ sym (q .1 .1))
+
+pub write-record-one : (κs : Lfts 3) (a : Dens κs write-kinds.ps) (r r' : CountedC) (s s' : AtExit (endedOf 3 write-kinds.ps write-kinds.r) κs) →
+    write-reads.Post κs a r s → write-reads.Post κs a r' s' → (r ≡ r') × (now (s .1 .1 .0) ≡ now (s' .1 .1 .0))
+write-record-one κs a r r' s s' p q = (p .0 ∙ sym (q .0), p .1 ∙ sym (q .1))

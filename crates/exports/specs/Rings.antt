@@ -25,8 +25,8 @@ cover-face (done true) = record { number = 0; place = 0; covered = 1 }
 cover-face (done false) = record { number = 0; place = 0; covered = 0 }
 cover-face (refused number place) = record { number = number; place = place; covered = 0 }
 
--- the count of the corners written
-abbrev pub counted-face : Answer (List Stream) → CountedC
+-- the count of the corners, or bytes, written
+abbrev pub counted-face : {A : Type 0} → Answer (List A) → CountedC
 counted-face (done r) = record { number = 0; place = 0; count = length r }
 counted-face (refused number place) = record { number = number; place = place; count = 0 }
 
@@ -35,12 +35,12 @@ abbrev pub count-face : Answer ℕ → CountedC
 count-face (done n) = record { number = 0; place = 0; count = n }
 count-face (refused number place) = record { number = number; place = place; count = 0 }
 
-pub counted-is : (a : Answer (List Stream)) → count-face (counted a) ≡ counted-face a
+pub counted-is : {A : Type 0} (a : Answer (List A)) → count-face (counted a) ≡ counted-face a
 counted-is (done r) = refl
 counted-is (refused number place) = refl
 
--- and from what an entry that writes a ring promises of its count
-pub told-face : (r : Counted) (a : Answer (List Stream)) → counted-as r ≡ counted a → count-face (counted-as r) ≡ counted-face a
+-- and from what an entry that writes a list promises of its count
+pub told-face : {A : Type 0} (r : Counted) (a : Answer (List A)) → counted-as r ≡ counted a → count-face (counted-as r) ≡ counted-face a
 told-face r a e = ap count-face e ∙ counted-is a
 
 pub outcome-face : {answer : Answer (List Stream)} {r : Counted} {east east' north north' : List ℤ} {scratch scratch' : List ℕ}

@@ -1,4 +1,4 @@
-// How many corners an entry wrote.
+// How many corners, or bytes, an entry wrote.
 use samples::answers::Counted;
 ghost use mathlib.Core.Path.{_≡_};
 ghost use Rattle.samples.specs.CountedAnswers.{counted-as};
