@@ -33,6 +33,9 @@ extern "C" {
 /* The words of scratch that so many samples, list items or joined corners ask for; they may hold anything before the call. */
 #define NUOSKELMA_SCRATCH(items) (16 * (size_t)(items) + 64)
 
+/* The bytes of the record of a ring of so many corners. */
+#define NUOSKELMA_RECORD(corners) (8 * (size_t)(corners) + 5)
+
 /* What number says in a result. A function gives those that it names below. */
 enum nuoskelma_refusal {
     NUOSKELMA_DONE = 0,
@@ -126,7 +129,7 @@ typedef struct {
 nuoskelma_chained nuoskelma_chains(const int32_t *east, size_t east_len, const int32_t *north, size_t north_len, uint32_t *upper, size_t upper_len,
     uint32_t *lower, size_t lower_len, uint32_t *scratch, size_t scratch_len);
 
-/* How many corners were written. */
+/* How many corners, or bytes, were written. */
 typedef struct {
     uint32_t number;
     size_t place;
@@ -263,6 +266,14 @@ nuoskelma_readings_taken nuoskelma_readings(const double *east, size_t east_len,
  */
 nuoskelma_counted nuoskelma_record(const uint8_t *bytes, size_t bytes_len, int32_t *out_east, size_t out_east_len, int32_t *out_north,
     size_t out_north_len);
+
+/*
+ * The record of a ring that comes as two lists, at the front of an output of bytes, and how many bytes it has: NUOSKELMA_RECORD of its corners. What lies
+ * beyond it in the output stays. A ring has one record: it is read as the ring, and what is read of a record is written as the same bytes.
+ * Refused: 1, the two lists differ in length; 2, over 65,536 corners; 3, a part beyond 1,000,000, at its first place; 9, not an envelope; 5, the output is
+ * shorter than the record. A refusal alters nothing.
+ */
+nuoskelma_counted nuoskelma_write_record(const int32_t *east, size_t east_len, const int32_t *north, size_t north_len, uint8_t *out, size_t out_len);
 
 #ifdef __cplusplus
 }

@@ -59,3 +59,31 @@ pub fn read_record(bytes: &[u8], out_east: &mut [i32], out_north: &mut [i32]) ->
     let r = face::record(bytes, out_east, out_north);
     unless_refused(r.number, r.place, r.count)
 }
+
+/// The bytes of the record of a ring of so many corners: 5, and 8 for each.
+///
+/// ```
+/// assert_eq!(nuoskelma::record_bytes(2), 21);
+/// ```
+pub const fn record_bytes(corners: usize) -> usize {
+    8 * corners + 5
+}
+
+/// Record writer: the record of a ring, in the form that [`read_record`] reads, at the front of an output of bytes, whose rest stays; and how many bytes it has,
+/// [`record_bytes`] of its corners. A ring has one record: it is read as the ring, and what is read of a record is written as the same bytes.
+///
+/// # Errors
+/// 1, the two lists differ in length; 2, over 65,536 corners; 3, a part beyond the limit, at its first place; 9, not an envelope; 5, the output is shorter than
+/// the record.
+///
+/// ```
+/// use nuoskelma::write_record;
+///
+/// let mut record = [9; 14];
+/// assert_eq!(write_record(&[2], &[-1], &mut record), Ok(13));
+/// assert_eq!(record, [1, 0, 0, 0, 8, 0, 0, 0, 2, 255, 255, 255, 255, 9]);
+/// ```
+pub fn write_record(east: &[i32], north: &[i32], out: &mut [u8]) -> Result<usize, Refusal> {
+    let r = face::write_record(east, north, out);
+    unless_refused(r.number, r.place, r.count)
+}

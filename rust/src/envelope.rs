@@ -1,7 +1,7 @@
 //! Envelopes that are owned.
 
 use crate::streams::{room, written, Streams};
-use crate::{Edge, Hand, Refusal, Scratch, StrongestSet};
+use crate::{record_bytes, Edge, Hand, Refusal, Scratch, StrongestSet};
 use std::iter::FusedIterator;
 
 /// An envelope that is owned: the corners of a ring, in ring order. There is none that is not the ring of its own positions, so no use of it is refused with 9.
@@ -83,6 +83,24 @@ impl Envelope {
     pub fn read(bytes: &[u8]) -> Result<Envelope, Refusal> {
         // a corner takes 8 bytes
         Envelope::of_call(bytes.len() / 8, |easts, norths| crate::read_record(bytes, easts, norths))
+    }
+
+    /// Its record, the bytes that [`Envelope::read`] reads as it: see [`write_record`](crate::write_record). It is never refused.
+    ///
+    /// ```
+    /// use nuoskelma::Envelope;
+    ///
+    /// let envelope = Envelope::of(&[2], &[-1])?;
+    /// assert_eq!(envelope.record(), [1, 0, 0, 0, 8, 0, 0, 0, 2, 255, 255, 255, 255]);
+    /// assert_eq!(Envelope::read(&envelope.record())?, envelope);
+    /// # Ok::<(), nuoskelma::Refusal>(())
+    /// ```
+    #[must_use]
+    pub fn record(&self) -> Vec<u8> {
+        let mut record = vec![0; record_bytes(self.len())];
+        // 1, 2, 3 and 9 are refusals of lists that are no envelope, and 5 of less room than its record takes
+        crate::write_record(&self.easts, &self.norths, &mut record).expect("an envelope with room for its record is written");
+        record
     }
 
     /// The envelope of no samples: joined with any other it gives the other.

@@ -54,7 +54,7 @@ mod scratch;
 mod streams;
 mod using;
 
-pub use door::{part, read_record, readings};
+pub use door::{part, read_record, readings, record_bytes, write_record};
 pub use envelope::{Edges, Envelope};
 pub use outline::{bridge, chains, pick, ring, round, Bridge, Chains, Round};
 pub use refusal::{DoorRefusal, Refusal};

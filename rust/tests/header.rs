@@ -155,6 +155,8 @@ fn the_limits_are_the_headers() {
     assert!(header.contains(&format!("#define NUOSKELMA_MOST {}\n", nuoskelma::MOST)));
     assert!(header.contains("#define NUOSKELMA_SCRATCH(items) (16 * (size_t)(items) + 64)\n"));
     assert_eq!(nuoskelma::scratch_words(1000), 16 * 1000 + 64);
+    assert!(header.contains("#define NUOSKELMA_RECORD(corners) (8 * (size_t)(corners) + 5)\n"));
+    assert_eq!(nuoskelma::record_bytes(1000), 8 * 1000 + 5);
     if let Some((version, _)) = between(&header, "#define NUOSKELMA_VERSION_STRING \"", "\"\n") {
         assert_eq!(version, env!("CARGO_PKG_VERSION"));
     }

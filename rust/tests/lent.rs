@@ -44,6 +44,10 @@ fn behind_the_results() {
     let (mut easts, mut norths) = ([STAYS; 3], [STAYS; 2]);
     read_record(&[1, 0, 0, 0, 8, 0, 0, 1, 0, 255, 255, 255, 255], &mut easts, &mut norths).unwrap();
     assert_eq!((easts, norths), ([256, STAYS, STAYS], [-1, STAYS]));
+
+    let mut record = [7; 15];
+    write_record(&[256], &[-1], &mut record).unwrap();
+    assert_eq!(record, [1, 0, 0, 0, 8, 0, 0, 1, 0, 255, 255, 255, 255, 7, 7]);
 }
 
 #[test]
@@ -94,6 +98,10 @@ fn everything_after_other_refusals() {
     assert_eq!(turn_about(&EAST, &NORTH, &mut easts, &mut norths).unwrap_err().number, 9);
     assert_eq!(readings(&[0.0, 0.5], &[0.0, 0.0], &mut easts, &mut norths).unwrap_err().number, 14);
     assert_eq!(read_record(&[0], &mut easts, &mut norths).unwrap_err().number, 16);
+    let mut record = [7; 12];
+    assert_eq!(write_record(&[256], &[-1], &mut record).unwrap_err().number, 5);
+    assert_eq!(write_record(&EAST, &NORTH, &mut record).unwrap_err().number, 9);
+    assert_eq!(record, [7; 12]);
     assert_eq!(scratch, noise());
     assert_eq!((upper, lower), ([NOISE; 7], [NOISE; 7]));
     assert_eq!((easts, norths), ([STAYS; 7], [STAYS; 7]));

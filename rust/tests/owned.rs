@@ -142,6 +142,7 @@ fn as_the_slices_answer() {
         let bytes = record(envelope.corners());
         assert_eq!(corners(Envelope::read(&bytes)), slices::read(&bytes));
         assert_eq!(Envelope::read(&bytes).as_ref(), Ok(&envelope));
+        assert_eq!(envelope.record(), bytes);
         let (x, y) = (some.part(size), some.part(size));
         assert_eq!(envelope.strongest(x, y), strongest(envelope.easts(), envelope.norths(), x, y));
         assert_eq!(envelope.covers(x, y), cover(envelope.easts(), envelope.norths(), x, y));
@@ -235,6 +236,7 @@ fn collected_and_compared() {
     assert_eq!((Envelope::default(), Envelope::empty().len(), Envelope::empty().is_empty()), (Envelope::empty(), 0, true));
     assert_eq!(Samples::new().envelope(), Ok(Envelope::empty()));
     assert_eq!(Envelope::read(&[1, 0, 0, 0, 0]), Ok(Envelope::empty()));
+    assert_eq!(Envelope::empty().record(), [1, 0, 0, 0, 0]);
 
     // in whatever order the samples come there is one envelope
     let mut turned = A;
@@ -355,5 +357,6 @@ fn two_envelopes_of_too_many_corners() {
     assert_eq!(large.join(&Envelope::empty()).as_ref(), Ok(&large));
     assert_eq!(large.turned().turned(), large);
     assert_eq!(large.edges().last(), Some(Edge { from: large.len() - 1, to: 0 }));
-    assert_eq!(Envelope::read(&record(large.corners())).as_ref(), Ok(&large));
+    assert_eq!(large.record(), record(large.corners()));
+    assert_eq!(Envelope::read(&large.record()).as_ref(), Ok(&large));
 }

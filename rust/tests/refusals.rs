@@ -34,6 +34,7 @@ fn no_1_lists_of_different_length() {
     assert_eq!(turn_about(&[0], &[], &mut r.first, &mut r.second), no(1, 0));
     assert_eq!(join(&[0], &[0], &[0], &[], &mut r.first, &mut r.second, &mut r.scratch), no(1, 0));
     assert_eq!(readings(&[0.0], &[], &mut r.first, &mut r.second), door(1, 0, None));
+    assert_eq!(write_record(&[0, LIMIT + 1], &[0], &mut []), no(1, 0));
 }
 
 #[test]
@@ -55,6 +56,7 @@ fn no_2_too_many() {
     record[0] = 1;
     record[1..5].copy_from_slice(&(8 * (MOST as u32 + 1)).to_be_bytes());
     assert_eq!(read_record(&record, &mut r.first, &mut r.second), no(2, 0));
+    assert_eq!(write_record(&many, &many, &mut record), no(2, 0));
 }
 
 #[test]
@@ -72,6 +74,7 @@ fn no_3_a_part_beyond_the_limit() {
     assert_eq!(join(&[0], &[0], &beyond, &[0, 0], &mut r.first, &mut r.second, &mut r.scratch), no(3, 1));
     let record = [1, 0, 0, 0, 8, 127, 255, 255, 255, 0, 0, 0, 0];
     assert_eq!(read_record(&record, &mut r.first, &mut r.second), no(3, 0));
+    assert_eq!(write_record(&beyond, &[0, 0], &mut []), no(3, 1));
 }
 
 #[test]
@@ -97,6 +100,8 @@ fn no_5_an_output_too_short() {
     assert_eq!(join(&east, &north, &[5], &[0], &mut r.first, &mut r.second[..2], &mut r.scratch), no(5, 0));
     assert_eq!(readings(&[0.0], &[0.0], &mut [], &mut r.second), door(5, 0, None));
     assert_eq!(read_record(&[1, 0, 0, 0, 8, 0, 0, 0, 0, 0, 0, 0, 0], &mut r.first, &mut []), no(5, 0));
+    assert_eq!(write_record(&east, &north, &mut [0; 28]), no(5, 0));
+    assert_eq!(write_record(&[], &[], &mut [0; 4]), no(5, 0));
 }
 
 #[test]
@@ -134,6 +139,7 @@ fn no_9_not_an_envelope() {
         assert_eq!(turn_about(east, north, &mut r.first, &mut r.second), no(9, 0));
         assert_eq!(join(east, north, &[], &[], &mut r.first, &mut r.second, &mut r.scratch), no(9, 0));
         assert_eq!(join(&[], &[], east, north, &mut r.first, &mut r.second, &mut r.scratch), no(9, 0));
+        assert_eq!(write_record(east, north, &mut []), no(9, 0));
     }
     let record = [1, 0, 0, 0, 16, 0, 0, 0, 4, 0, 0, 0, 0, 0, 0, 0, 0, 0, 0, 0, 0];
     assert_eq!(read_record(&record, &mut r.first, &mut r.second), no(9, 0));

@@ -127,6 +127,9 @@ fn records() {
     let record = [1, 0, 0, 0, 16, 255, 255, 255, 254, 0, 0, 0, 5, 0, 0, 0, 3, 0, 0, 0, 0];
     assert_eq!(read_record(&record, &mut easts, &mut norths), Ok(2));
     assert_eq!((easts, norths), ([-2, 3], [5, 0]));
+    let mut again = [9; 22];
+    assert_eq!(write_record(&easts, &norths, &mut again), Ok(21));
+    assert_eq!((&again[..21], again[21]), (&record[..], 9));
 }
 
 #[test]
@@ -137,4 +140,5 @@ fn nothing_at_all() {
     assert_eq!(turn_about(&[], &[], &mut [], &mut []), Ok(0));
     assert_eq!(cover(&[], &[], 0, 0), Ok(false));
     assert_eq!(readings(&[], &[], &mut [], &mut []), Ok(0));
+    assert_eq!(write_record(&[], &[], &mut [0; 5]), Ok(5));
 }
