@@ -133,9 +133,7 @@ extern "C" {
     fn nuoskelma_record(
         bytes: *const u8, bytes_len: usize, out_east: *mut i32, out_east_len: usize, out_north: *mut i32, out_north_len: usize,
     ) -> Counted;
-    fn nuoskelma_write_record(
-        east: *const i32, east_len: usize, north: *const i32, north_len: usize, out: *mut u8, out_len: usize,
-    ) -> Counted;
+    fn nuoskelma_write_record(east: *const i32, east_len: usize, north: *const i32, north_len: usize, out: *mut u8, out_len: usize) -> Counted;
 }
 
 pub fn pick(numbers: &[i32], rank: usize, scratch: &mut [u32]) -> Picked {

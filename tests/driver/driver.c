@@ -23,7 +23,8 @@
    12  part         x (bits)
    13  readings                    east, north (doubles), out_east, out_north
    14  record                      bytes, out_east, out_north
-   15  no entry     bytes                                                       writes so many bytes of stack, from above
+   15  write_record                east, north, out
+   16  no entry     bytes                                                       writes so many bytes of stack, from above
 
    An op with 100 added is the same on a stack of its own, of 65,536 bytes and not one more: what lies below may not be touched, and a call that goes deeper
    ends this program by signal 11. Its response has one scalar more, how many bytes of that stack were used, counted down to the lowest one written.
@@ -392,6 +393,11 @@ static void record(void) {
     say_counted(nuoskelma_record(BYTES(0), I32(1), I32(2)));
 }
 
+static void write_record(void) {
+    form(0, "iib");
+    say_counted(nuoskelma_write_record(I32(0), I32(1), BYTES(2)));
+}
+
 static void use_stack(void) {
     form(1, "");
     volatile uint8_t *used = __builtin_alloca((size_t)scalars[0]);
@@ -414,7 +420,8 @@ static void answer(uint32_t op) {
     case 12: part(); break;
     case 13: readings(); break;
     case 14: record(); break;
-    case 15: use_stack(); break;
+    case 15: write_record(); break;
+    case 16: use_stack(); break;
     default: flush(); exit(UNKNOWN_OP);
     }
 }

@@ -12,6 +12,8 @@ enum {
     OUTPUT_BEYOND,      /* ring: the word behind the result is altered */
     OUTPUT_REFUSED,     /* readings: the first word of an output is altered by a refusal */
     BEYOND_OUTPUT,      /* record: a word behind a list is altered */
+    BEHIND_RECORD,      /* write_record: the byte behind the record is altered */
+    OTHER_END,          /* write_record: the last part's bytes are in the other order */
     PLACE,              /* cover: the place of refusal 3 is one too small */
     OUTLINE,            /* cover: no stream on an edge of many is covered */
     WHOLE_LINE,         /* cover: two corners cover their whole line */
@@ -177,5 +179,18 @@ static nuoskelma_counted faulty_record(const uint8_t *bytes, size_t bytes_len, i
     return r;
 }
 #define nuoskelma_record faulty_record
+
+static nuoskelma_counted faulty_write_record(const int32_t *east, size_t east_len, const int32_t *north, size_t north_len, uint8_t *out, size_t out_len) {
+    nuoskelma_counted r = nuoskelma_write_record(east, east_len, north, north_len, out, out_len);
+    if (FAULT == BEHIND_RECORD && r.number == 0 && r.count < out_len) out[r.count] ^= 1;
+    if (FAULT == OTHER_END && r.number == 0 && east_len > 0) {
+        uint8_t last = out[r.count - 1];
+        out[r.count - 1] = out[r.count - 4];
+        out[r.count - 4] = last;
+    }
+    if (middle(east_len) && r.number == 0) r.count++;
+    return r;
+}
+#define nuoskelma_write_record faulty_write_record
 
 #include "driver.c"

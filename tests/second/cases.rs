@@ -17,9 +17,10 @@ pub mod soundings;
 pub mod stack;
 pub mod strongest;
 pub mod turn_about;
+pub mod write_record;
 
 use crate::driver::{
-    Desk, Entry, BRIDGE, CHAINS, COVER, HAND_FOR, HAND_STEP, JOIN, PART, PICK, READINGS, RECORD, RING, ROUND, STRONGEST, TURN_ABOUT,
+    Desk, Entry, BRIDGE, CHAINS, COVER, HAND_FOR, HAND_STEP, JOIN, PART, PICK, READINGS, RECORD, RING, ROUND, STRONGEST, TURN_ABOUT, WRITE_RECORD,
 };
 use crate::gen::{Chance, Samples};
 use crate::rules::{scratch_for, Answer};
@@ -55,7 +56,7 @@ const fn cases(
 }
 
 /// Every entry: `face::hold` holds this list to the header.
-pub const ENTRIES: [Cases; 13] = [
+pub const ENTRIES: [Cases; 14] = [
     cases("pick", &[&PICK], soundings::pick, pick::cases, Some(pick::middle), Some(pick::empty), pick::largest),
     cases("round", &[&ROUND], soundings::round, round::cases, Some(round::middle), Some(round::empty), round::largest),
     cases("bridge", &[&BRIDGE], soundings::bridge, bridge::cases, Some(bridge::middle), Some(bridge::empty), bridge::largest),
@@ -77,6 +78,15 @@ pub const ENTRIES: [Cases; 13] = [
     cases("part", &[&PART], soundings::part, part::cases, None, None, soundings::part),
     cases("readings", &[&READINGS], soundings::readings, readings::cases, Some(readings::middle), Some(readings::empty), readings::largest),
     cases("record", &[&RECORD], soundings::record, record::cases, Some(record::middle), Some(record::empty), record::largest),
+    cases(
+        "write_record",
+        &[&WRITE_RECORD],
+        soundings::write_record,
+        write_record::cases,
+        Some(write_record::middle),
+        Some(write_record::empty),
+        write_record::largest,
+    ),
 ];
 
 /// A result's number and place, then its other fields, which are 0 at a refusal.

@@ -44,8 +44,9 @@ pub const JOIN: Entry =
 pub const PART: Entry = entry(12, "part", &["x (bits)"], &[], &["number", "value", "back (bits)"]);
 pub const READINGS: Entry = entry(13, "readings", &[], &["east", "north", "out_east", "out_north"], &["number", "place", "count", "back (bits)"]);
 pub const RECORD: Entry = entry(14, "record", &[], &["bytes", "out_east", "out_north"], &["number", "place", "count"]);
+pub const WRITE_RECORD: Entry = entry(15, "write_record", &[], &["east", "north", "out"], &["number", "place", "count"]);
 /// No entry: the driver writes so many bytes of its stack.
-pub const USE_STACK: Entry = entry(15, "use_stack", &["bytes"], &[], &[]);
+pub const USE_STACK: Entry = entry(16, "use_stack", &["bytes"], &[], &[]);
 
 /// A lent list. Floats are their bits.
 #[derive(Clone, PartialEq, Eq)]

@@ -95,6 +95,10 @@ impl Chance {
         (0..length).map(|_| self.bits() as i32).collect()
     }
 
+    pub fn noise_u8(&mut self, length: usize) -> Vec<u8> {
+        (0..length).map(|_| self.bits() as u8).collect()
+    }
+
     /// A length of 0 to 255, mostly below 13: the ends are where lists differ most.
     pub fn length(&mut self) -> usize {
         match self.below(20) {

@@ -16,7 +16,7 @@ use crate::rules::chain::{at, bridge, chains_of, lower, ring_of, upper, Position
 use crate::rules::door::{part, readings};
 use crate::rules::program::program;
 use crate::rules::rank::pick;
-use crate::rules::record::{record, record_of};
+use crate::rules::record::{record, record_of, write_record};
 use crate::rules::round::{said, Said};
 use crate::rules::using::{cover, hand_for, hand_step, is_envelope, joined, strongest, turned};
 use crate::rules::{has_bridge, scratch_for};
@@ -352,6 +352,11 @@ fn records() -> u64 {
         let answer = record(&bytes, &mut east, &mut north);
         let within = list.iter().all(|p| p.east.abs() <= 1_000_000 && p.north.abs() <= 1_000_000);
         agree(answer.ok(), (within && brute::is_envelope(&list)).then_some(list.len()), || format!("record of {list:?}"));
+        let parts = Samples::of(&list);
+        let mut out = vec![9; bytes.len() + 1];
+        agree(write_record(&parts.east, &parts.north, &mut out).ok(), answer.ok().map(|_| bytes.len()), || format!("written: {list:?}"));
+        let written = if answer.is_ok() { [&bytes[..], &[9]].concat() } else { vec![9; bytes.len() + 1] };
+        agree(out, written, || format!("bytes of {list:?}"));
         if answer.is_ok() {
             let read = Samples { east: east[..list.len()].to_vec(), north: north[..list.len()].to_vec() };
             agree(read.positions(), list, || "record".to_string());

@@ -8,6 +8,7 @@ use std::time::Instant;
 use super::cover::beside;
 use crate::driver::{
     fail, Entry, Lent, Library, BRIDGE, CHAINS, COVER, HAND_FOR, HAND_STEP, JOIN, PICK, READINGS, RECORD, RING, ROUND, STRONGEST, TURN_ABOUT,
+    WRITE_RECORD,
 };
 use crate::gen::{of_sizes, samples, times, Chance, Samples};
 use crate::rules::chain::{at, positions};
@@ -43,6 +44,13 @@ fn u32s(left: &Lent, count: usize) -> Vec<u32> {
     match left {
         Lent::U32(list) => list[..count].to_vec(),
         _ => unreachable!("a list of numbers comes back as one"),
+    }
+}
+
+fn bytes(left: &Lent, count: usize) -> Vec<u8> {
+    match left {
+        Lent::Bytes(list) => list[..count].to_vec(),
+        _ => unreachable!("bytes come back as bytes"),
     }
 }
 
@@ -148,6 +156,21 @@ impl Laws {
     fn pick(&mut self, numbers: &[i32], rank: usize) -> i64 {
         let lent = vec![Lent::I32(numbers.to_vec()), self.scratch(numbers.len())];
         self.done(&PICK, &[rank as i64], lent).0[2]
+    }
+
+    fn record(&mut self, ring: &Ring) -> Vec<u8> {
+        let room = 8 * ring.east.len() + 9;
+        let lent = vec![Lent::I32(ring.east.clone()), Lent::I32(ring.north.clone()), Lent::Bytes(self.chance.noise_u8(room))];
+        let (said, left) = self.done(&WRITE_RECORD, &[], lent);
+        bytes(&left[2], said[2] as usize)
+    }
+
+    /// The ring of a record, which may be refused.
+    fn read(&mut self, record: &[u8]) -> Option<Ring> {
+        let lent = vec![Lent::Bytes(record.to_vec()), self.room(record.len() / 8), self.room(record.len() / 8)];
+        let (said, left) = self.library.call(&RECORD, &[], &lent);
+        let corners = said[2] as usize;
+        (said[0] == 0).then(|| Ring { east: i32s(&left[1], corners), north: i32s(&left[2], corners) })
     }
 
     /// All laws on one list of samples, which is cut into so many parts.
@@ -297,13 +320,36 @@ impl Laws {
     }
 
     fn of_records(&mut self, ring: &Ring) {
-        let n = ring.east.len();
-        let parts = ring.east.iter().zip(&ring.north).flat_map(|(east, north)| [east.to_be_bytes(), north.to_be_bytes()].concat());
-        let bytes: Vec<u8> = [1].into_iter().chain((8 * n as u32).to_be_bytes()).chain(parts).collect();
-        let lent = vec![Lent::Bytes(bytes), self.room(n), self.room(n)];
-        let (said, left) = self.done(&RECORD, &[], lent);
-        let read = Ring { east: i32s(&left[1], said[2] as usize), north: i32s(&left[2], said[2] as usize) };
-        self.hold("a ring's record is read as the ring", &read, ring, ring);
+        let record = self.record(ring);
+        let read = self.read(&record);
+        self.hold("a ring's record is read as the ring", read.as_ref(), Some(ring), ring);
+        for _ in 0..8 {
+            let damaged = self.damaged(&record);
+            let Some(other) = self.read(&damaged) else {
+                continue;
+            };
+            let again = self.record(&other);
+            let law = match damaged == record {
+                true => "what is read of a record is written as the same bytes",
+                false => "what is read of a damaged record is written as the same bytes",
+            };
+            self.hold(law, &again, &damaged, ring);
+            self.hold("two records are read as two rings", other == *ring, damaged == record, &(ring, &damaged));
+        }
+    }
+
+    /// A record, whole as often as not; else cut, with a byte more, or with a bit flipped, mostly a low one of a part.
+    fn damaged(&mut self, record: &[u8]) -> Vec<u8> {
+        let mut bytes = record.to_vec();
+        let at = self.chance.below(bytes.len());
+        match self.chance.below(10) {
+            0 => bytes.truncate(at),
+            1 => bytes.push(0),
+            2 => bytes[at] ^= 1 << self.chance.below(8),
+            3 | 4 if bytes.len() > 5 => bytes[8 + (at - at % 4) % (record.len() - 5)] ^= 1,
+            _ => {}
+        }
+        bytes
     }
 
     fn of_hands(&mut self, corners: usize) {
@@ -324,7 +370,7 @@ impl Laws {
 }
 
 /// So many laws there are; each must have been held on some list.
-const LAWS: usize = 22;
+const LAWS: usize = 25;
 
 pub fn run(driver: &str) {
     let start = Instant::now();

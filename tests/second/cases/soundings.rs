@@ -4,6 +4,7 @@
 
 use crate::driver::{
     Case, Desk, Entry, Lent, BRIDGE, CHAINS, COVER, HAND_FOR, HAND_STEP, JOIN, PART, PICK, READINGS, RECORD, RING, ROUND, STRONGEST, TURN_ABOUT,
+    WRITE_RECORD,
 };
 use crate::gen::{large_ring, Samples};
 use crate::rules::chain::at;
@@ -292,4 +293,31 @@ pub fn record(desk: &mut Desk) {
     call(vec![1, 0, 0, 0, 16, 0, 0, 0, 0, 0, 0, 0, 0, 0, 0, 0, 0, 255, 240, 189, 191]).refused(desk, PART_REFUSED, 3, 1);
     call(record_of(&vec![at(4, 4); MOST])).refused(desk, CORNERS_NOT_REFUSED, 9, 0);
     call(record_of(&vec![at(4, 4); MOST + 1])).refused(desk, SAMPLES_REFUSED, 2, 0);
+}
+
+pub fn write_record(desk: &mut Desk) {
+    let call = |(east, north): (Lent, Lent), room: usize| Call {
+        entry: &WRITE_RECORD,
+        scalars: Vec::new(),
+        lent: vec![east, north, Lent::Bytes(vec![9; room])],
+    };
+    let left = |bytes: &[u8], behind: usize| vec![(2, Lent::Bytes([bytes, &vec![9; behind]].concat()))];
+    let limits = [1, 0, 0, 0, 16, 255, 240, 189, 192, 0, 15, 66, 64, 0, 15, 66, 64, 255, 240, 189, 192];
+    call(ring_at_limit(), 23).leaves(desk, PART_TAKEN, &[0, 0, 21], left(&limits, 2));
+    for (east, north, place) in beyond_limit() {
+        call((east, north), 0).refused(desk, PART_REFUSED, 3, place);
+    }
+    call(many(MOST), 0).refused(desk, CORNERS_NOT_REFUSED, 9, 0);
+    call(many(MOST + 1), 0).refused(desk, SAMPLES_REFUSED, 2, 0);
+    // the table of records in the definitions
+    let empty = || (i32s(&[]), i32s(&[]));
+    call(empty(), 5).leaves(desk, "the empty ring written", &[0, 0, 5], left(&[1, 0, 0, 0, 0], 0));
+    call(empty(), 4).refused(desk, "the empty ring, a byte short", 5, 0);
+    let pair = || (i32s(&[0, 2]), i32s(&[3, -1]));
+    let bytes = [1, 0, 0, 0, 16, 0, 0, 0, 0, 0, 0, 0, 3, 0, 0, 0, 2, 255, 255, 255, 255];
+    call(pair(), 21).leaves(desk, "two corners written", &[0, 0, 21], left(&bytes, 0));
+    call(pair(), 20).refused(desk, "two corners, a byte short", 5, 0);
+    call((i32s(&[2, 0]), i32s(&[-1, 3])), 0).refused(desk, "9 before 5", 9, 0);
+    call((i32s(&[0, 1_000_001, 0]), i32s(&[0, 0, 0])), 0).refused(desk, "3 before 9", 3, 1);
+    call((i32s(&[0, 1_000_001]), i32s(&[0])), 0).refused(desk, "1 before 3", 1, 0);
 }

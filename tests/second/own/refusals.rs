@@ -6,7 +6,7 @@ use crate::gen::{input_a, Samples};
 use crate::rules::chain::{bridge, chains, ring, ring_of};
 use crate::rules::door::readings;
 use crate::rules::rank::pick;
-use crate::rules::record::record;
+use crate::rules::record::{record, write_record};
 use crate::rules::round::round;
 use crate::rules::using::{cover, hand_for, hand_step, join, strongest, turn_about, Hand};
 use crate::rules::{scratch_for, Answer, Refusal, MOST};
@@ -19,7 +19,8 @@ fn step<T>(entry: &str, answer: Answer<T>, number: u32, place: usize) -> u64 {
 }
 
 pub fn check() -> u64 {
-    pick_order() + round_order() + bridge_order() + chain_order() + hand_order() + ring_use_order() + join_order() + door_order() + record_order()
+    let over_samples = pick_order() + round_order() + bridge_order() + chain_order();
+    over_samples + hand_order() + ring_use_order() + join_order() + door_order() + record_order() + write_order()
 }
 
 /// So many samples, (3, -4) each.
@@ -222,5 +223,31 @@ fn record_order() -> u64 {
     tell(&changed, 16, 0);
     let count = MOST as u32 + 1;
     tell(&[&[1][..], &(8 * count).to_be_bytes(), &vec![0x7f; 8 * count as usize]].concat(), 2, 0);
+    steps
+}
+
+fn write_order() -> u64 {
+    let (mut east, mut north) = (vec![4, 0, 1_000_001], vec![0, i32::MIN]);
+    let mut steps = 0;
+    let mut tell = |east: &[i32], north: &[i32], room: usize, number: u32, place: usize| {
+        let mut out = vec![9; room];
+        steps += step("write_record", write_record(east, north, &mut out), number, place);
+        agree(number != 0 && out.iter().any(|&byte| byte != 9), false, || "an output altered by a refusal".to_string());
+    };
+    tell(&east, &north, 0, 1, 0);
+    north.push(0);
+    let long = many(MOST + 1);
+    tell(&long.east, &long.north, 0, 2, 0);
+    tell(&east, &north, 0, 3, 1);
+    north[1] = 0;
+    tell(&east, &north, 0, 3, 2);
+    east[2] = 1;
+    tell(&east, &north, 0, 9, 0);
+    east = vec![0, 1, 4];
+    north[1] = 5;
+    tell(&east, &north, 28, 5, 0);
+    tell(&east, &north, 29, 0, 0);
+    tell(&[], &[], 4, 5, 0);
+    tell(&[], &[], 5, 0, 0);
     steps
 }

@@ -1,8 +1,8 @@
-//! The record reader, and the record of a ring that it reads.
+//! The record reader and the record writer.
 
 use super::chain::{positions, write_ring, Position};
-use super::using::is_envelope;
-use super::{not_too_many, parts_within, refuse, Answer};
+use super::using::{envelope, is_envelope};
+use super::{not_too_many, output_enough, parts_within, refuse, Answer};
 
 pub const HEAD: usize = 5;
 
@@ -46,4 +46,12 @@ pub fn record(bytes: &[u8], out_east: &mut [i32], out_north: &mut [i32]) -> Answ
         return refuse(9, 0);
     }
     write_ring(&corners, out_east, out_north)
+}
+
+/// How many bytes the record of the ring has.
+pub fn write_record(east: &[i32], north: &[i32], out: &mut [u8]) -> Answer<usize> {
+    let bytes = record_of(&envelope(east, north)?);
+    output_enough(out.len(), bytes.len())?;
+    out[..bytes.len()].copy_from_slice(&bytes);
+    Ok(bytes.len())
 }

@@ -34,7 +34,7 @@ pub fn is_envelope(list: &[Position]) -> bool {
 }
 
 /// Refusals 1, 2, 3 and 9 of a ring; then its corners.
-fn envelope(east: &[i32], north: &[i32]) -> Answer<Vec<Position>> {
+pub fn envelope(east: &[i32], north: &[i32]) -> Answer<Vec<Position>> {
     two_lists(east, north)?;
     let corners = positions(east, north);
     if is_envelope(&corners) {
