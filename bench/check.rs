@@ -2,10 +2,11 @@
 
 use crate::inputs::{Chance, Sheet, SHEETS};
 use crate::peers::{corners, peers};
-use crate::{andrew, literal, picking, same};
+use crate::{andrew, literal, picking, same, writing};
 
 pub fn check() {
     pickers();
+    writers();
     short_sheets();
     long_sheets();
 }
@@ -21,6 +22,24 @@ fn pickers() {
         same("the plain picker, beside a sort", picked, list[rank - 1]);
     }
     println!("the plain picker agrees with a sort on 20,000 lists");
+}
+
+/// The plain writer takes the ring of a sheet, and the sheet itself exactly if it is its own ring.
+fn writers() {
+    let mut chance = Chance::new(4);
+    for _ in 0..20_000 {
+        let reach = [1, 3, 1_000_000][chance.below(3)];
+        let mut sheet = Sheet::default();
+        for _ in 0..chance.below(7) {
+            sheet.push(chance.between(-reach, reach) as f64, chance.between(-reach, reach) as f64);
+        }
+        let ring = writing::ring(&sheet);
+        let write = |sheet: &Sheet| writing::write(sheet, &mut vec![0; writing::size(sheet.len())]);
+        let own = (&ring.east, &ring.north) == (&sheet.east, &sheet.north);
+        same("the plain writer on a ring", write(&ring), Ok(writing::size(ring.len())));
+        same("the plain writer on samples", write(&sheet), if own { Ok(writing::size(sheet.len())) } else { Err(9) });
+    }
+    println!("the plain writer takes rings alone, on 20,000 sheets");
 }
 
 /// Holds the literal chains against Andrew's, and the literal bridge over a against the edge of Andrew's upper chain.

@@ -1,4 +1,4 @@
-//! What is timed: lists of numbers for the picker and sheets of samples for the bridge and the chains, the same at every run.
+//! What is timed: lists of numbers for the picker and sheets of samples for the bridge, the chains and the rings that are written, the same at every run.
 
 use std::f64::consts::TAU;
 
@@ -155,7 +155,7 @@ fn few_easts(chance: &mut Chance, n: usize) -> Sheet {
 }
 
 /// As near as whole numbers come to the circle of the limit.
-fn circle(chance: &mut Chance, n: usize) -> Sheet {
+pub fn circle(chance: &mut Chance, n: usize) -> Sheet {
     sheet(n, |_| {
         let turn = TAU * chance.share();
         (LIMIT * turn.cos(), LIMIT * turn.sin())

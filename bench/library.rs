@@ -158,3 +158,43 @@ mod both_chains {
 
 #[cfg(has_library)]
 pub use both_chains::{chains, Room};
+
+#[cfg(has_library)]
+mod records {
+    use crate::inputs::Sheet;
+
+    #[repr(C)]
+    struct Counted {
+        number: u32,
+        place: usize,
+        count: usize,
+    }
+
+    extern "C" {
+        fn nuoskelma_write_record(
+            answer: *mut Counted,
+            east: *const i32,
+            east_len: usize,
+            north: *const i32,
+            north_len: usize,
+            out: *mut u8,
+            out_len: usize,
+        ) -> *mut Counted;
+    }
+
+    /// How many bytes of a ring's record stand at the front of the output, or the refusal's number.
+    pub fn write_record(ring: &Sheet, out: &mut [u8]) -> Result<usize, u32> {
+        let mut answer = Counted { number: 0, place: 0, count: 0 };
+        let (east, north) = (&ring.east, &ring.north);
+        // as for pick
+        unsafe { nuoskelma_write_record(&mut answer, east.as_ptr(), east.len(), north.as_ptr(), north.len(), out.as_mut_ptr(), out.len()) };
+        if answer.number == 0 {
+            Ok(answer.count)
+        } else {
+            Err(answer.number)
+        }
+    }
+}
+
+#[cfg(has_library)]
+pub use records::write_record;

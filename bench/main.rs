@@ -1,6 +1,6 @@
 //! Times of the library's entries as ratios to peers, in one run, on this processor. No time decides how the run ends; an answer that differs does.
 //!
-//! Arguments: tables (pick, bridge, chains), or check, which holds the peers against each other.
+//! Arguments: tables (pick, bridge, chains, write), or check, which holds the peers against each other.
 
 mod andrew;
 mod check;
@@ -11,6 +11,7 @@ mod literal;
 mod peers;
 mod picking;
 mod tables;
+mod writing;
 
 /// Ends the run unless two answers are the same.
 pub fn same<T: PartialEq + std::fmt::Debug>(what: &str, one: T, other: T) {

@@ -6,6 +6,8 @@ pub mod bridge;
 pub mod chains;
 #[cfg(has_library)]
 pub mod pick;
+#[cfg(has_library)]
+pub mod write;
 
 /// A table's name and what prints it.
 type Printed = (&'static str, fn());
@@ -18,4 +20,6 @@ pub const TABLES: &[Printed] = &[
     ("bridge", bridge::print),
     #[cfg(has_library)]
     ("chains", chains::print),
+    #[cfg(has_library)]
+    ("write", write::print),
 ];
