@@ -1,5 +1,6 @@
 /* Bytes as a record, with the library held against itself: a refusal alters nothing; what is taken stands at the front of the outputs, the rest stays; whole
-   frames are taken or refused exactly as turning their corners about is, whose answer has as many corners; outputs one short are refused with 5. */
+   frames are taken or refused exactly as turning their corners about is, whose answer has as many corners; what is taken is written again as the same bytes;
+   outputs one short are refused with 5. */
 
 #include <stdint.h>
 #include <stdlib.h>
@@ -46,6 +47,19 @@ static void whole(const uint8_t *bytes, size_t size, nuoskelma_counted read, con
     free(out_north);
 }
 
+static void again(const uint8_t *bytes, size_t size, size_t corners, const int32_t *east, const int32_t *north) {
+    uint8_t *out = malloc(size + 1);
+    hold(out != NULL);
+    memset(out, 7, size + 1);
+    nuoskelma_counted written = nuoskelma_write_record(east, corners, north, corners, out, size - 1);
+    hold(written.number == 5 && written.place == 0 && written.count == 0);
+    for (size_t k = 0; k <= size; k++) hold(out[k] == 7);
+    written = nuoskelma_write_record(east, corners, north, corners, out, size + 1);
+    hold(written.number == 0 && written.place == 0 && written.count == size);
+    hold(memcmp(out, bytes, size) == 0 && out[size] == 7);
+    free(out);
+}
+
 int LLVMFuzzerTestOneInput(const uint8_t *bytes, size_t size) {
     size_t length = size / CORNER + BEHIND;
     int32_t *east = room(length), *north = room(length);
@@ -58,6 +72,7 @@ int LLVMFuzzerTestOneInput(const uint8_t *bytes, size_t size) {
     } else {
         hold(read.number == (size > 0 && bytes[0] != 1 ? 16u : 17u));
     }
+    if (read.number == 0) again(bytes, size, read.count, east, north);
     if (read.number == 0 && read.count > 0) {
         int32_t *short_east = room(length), *short_north = room(length);
         nuoskelma_counted again = nuoskelma_record(bytes, size, short_east, read.count, short_north, read.count - 1);
