@@ -10,14 +10,14 @@ use lib.Dec.{leb, ltb, eqb}
 use lib.Ieee.{Float}
 use lib.ListN.{length}
 use Rattle.rules.specs.Lists.{some-of, first-place, written}
-use Rattle.rules.specs.Streams.{Stream, stream, streams, sample, most, mirrored, eqZ}
+use Rattle.rules.specs.Streams.{Stream, stream, streams, sample, most, beyond, mirrored, eqZ}
 use Rattle.rules.specs.Chain.{upper-numbers, lower-numbers}
 use Rattle.rules.specs.Ring.{ring}
 use Rattle.rules.specs.Picker.{rank}
 use Rattle.rules.specs.Step.{chain-by-steps}
 use Rattle.rules.specs.Bridge.{Bridge, ends, bridge, spans, reported}
 use Rattle.rules.specs.Round.{Said, found, kept, round}
-use Rattle.rules.specs.Use.{envelope, HandAt, hand-for, next-place, moved-on, strongest, strongest-place, covers, join, turn-about}
+use Rattle.rules.specs.Use.{envelope, HandAt, hand-for, next-place, moved-on, strongest, strongest-place, covers, join, sum, turn-about}
 use Rattle.rules.specs.Door.{Readings, taken, bad, bad-float, readings}
 use Rattle.rules.specs.Record.{known-version, head-size, corner-size, version, said-length, record-corners, record-of}
 use Rattle.rules.specs.Refusals.{Answer, refused, done, Test, test, unless, lengths-differ, too-many, part-beyond, single-beyond, scratch-short, output-short, ring-tests, not-envelope}
@@ -174,18 +174,30 @@ turn-answer es ns east north =
     let r = turn-about (streams es ns) in
     unless (ring-tests es ns ++ (not-envelope es ns ∷ ring-short east north r ∷ [])) r
 
--- ---- join: first ring (1, 2, 3, 9), second ring, 2 for both, 4, 5
+-- ---- join and sum: first ring (1, 2, 3, 9), second ring, 2 for both, 4, 5; in a sum 19 goes before 5
+
+-- the tests of two rings that come with scratch for both
+abbrev pub two-ring-tests : List ℤ → List ℤ → List ℤ → List ℤ → List ℕ → List Test
+two-ring-tests es ns fs ms scratch =
+    let both = length es + length fs in
+    ring-tests es ns
+    ++ (not-envelope es ns ∷ [])
+    ++ ring-tests fs ms
+    ++ (not-envelope fs ms ∷ too-many both ∷ scratch-short both scratch ∷ [])
 
 unfoldable pub join-answer : List ℤ → List ℤ → List ℤ → List ℤ → List ℤ → List ℤ → List ℕ → Answer (List Stream)
 join-answer es ns fs ms east north scratch =
     let r = join (streams es ns) (streams fs ms) in
-    let both = length es + length fs in
-    unless
-    (ring-tests es ns
-    ++ (not-envelope es ns ∷ [])
-    ++ ring-tests fs ms
-    ++ (not-envelope fs ms ∷ too-many both ∷ scratch-short both scratch ∷ ring-short east north r ∷ []))
-    r
+    unless (two-ring-tests es ns fs ms scratch ++ (ring-short east north r ∷ [])) r
+
+-- "a corner of the sum is beyond the limit, place 0"
+abbrev pub sum-beyond : List Stream → Test
+sum-beyond r = test 19 0 (some-of beyond r)
+
+unfoldable pub sum-answer : List ℤ → List ℤ → List ℤ → List ℤ → List ℤ → List ℤ → List ℕ → Answer (List Stream)
+sum-answer es ns fs ms east north scratch =
+    let r = sum (streams es ns) (streams fs ms) in
+    unless (two-ring-tests es ns fs ms scratch ++ (sum-beyond r ∷ ring-short east north r ∷ [])) r
 
 -- ---- float door: 1, 2, 12 to 14, 5. What it answers has its own form, since 13 and 14 hand back the float
 

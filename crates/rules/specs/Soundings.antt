@@ -16,10 +16,10 @@ use Rattle.rules.specs.Picker.{ranked, rank}
 use Rattle.rules.specs.Step.{cut, left-list, right-list, first-list, cut-bridge, steps, chain-by-steps}
 use Rattle.rules.specs.Bridge.{ends, edge-over, bridge, spans, reported}
 use Rattle.rules.specs.Round.{Slope, Said, found, kept, slope-le, height, middle-slope, paired, slopes, keep, left-top, right-top, round-with, round}
-use Rattle.rules.specs.Use.{envelope, set-on, strongest, strongest-place, between, beside, covers, join, turn-about}
+use Rattle.rules.specs.Use.{envelope, set-on, strongest, strongest-place, between, beside, covers, join, sums, sum, turn-about}
 use Rattle.rules.specs.Record.{word, twos, corners-at, record-corners, word-of, corners-bytes, record-of}
 use Rattle.rules.specs.Refusals.{Answer, refused, done}
-use Rattle.rules.specs.Entries.{bridge-answer, round-answer, strongest-answer, cover-answer, record-answer, write-answer}
+use Rattle.rules.specs.Entries.{bridge-answer, round-answer, strongest-answer, cover-answer, record-answer, write-answer, sum-answer}
 use Rattle.rules.specs.Program.{decimal, unsigned, number, cut-at, line, text, samples, digits, printed-natural, printed-whole, printed-corners, printed, program}
 
 -- ---- input A, and enough scratch for it
@@ -163,6 +163,46 @@ pub record Slips : Type 0 where
 pub slips : Slips
 unfolding A A-ring flush those some-of all-of first-place best-from best insert sorted streams same side leftmost rightmost left-end right-end furthest-round next-corner corners upper lower closed ring ranked rank cut slope-le turn-about
 slips = record { left-middle = refl; undivided = refl; no-flush = refl; reversed = refl; with-sides = refl }
+
+-- ---- the sum
+
+-- a sum into outputs of a length, with so much scratch
+unfoldable pub sum-from : List ℤ → List ℤ → List ℤ → List ℤ → ℕ → ℕ → Answer (List Stream)
+sum-from es ns fs ms output scratch = sum-answer es ns fs ms (replicate output (pos 9)) (replicate output (pos 9)) (replicate scratch 7)
+
+pub record Sums : Type 0 where
+  -- two sides that cross; two along one line; a triangle and its turning about; one position moves a ring; an empty ring makes an empty one
+  pub crossing : sum-from (pos 0 ∷ pos 2 ∷ []) (pos 0 ∷ pos 0 ∷ []) (pos 0 ∷ pos 0 ∷ []) (pos 1 ∷ pos 0 ∷ []) 4 128
+      ≡ done (stream (pos 0) (pos 1) ∷ stream (pos 2) (pos 1) ∷ stream (pos 2) (pos 0) ∷ stream (pos 0) (pos 0) ∷ [])
+  pub along : sum-from (pos 0 ∷ pos 1 ∷ []) (pos 0 ∷ pos 1 ∷ []) (pos 0 ∷ pos 2 ∷ []) (pos 0 ∷ pos 2 ∷ []) 2 128
+      ≡ done (stream (pos 0) (pos 0) ∷ stream (pos 3) (pos 3) ∷ [])
+  pub six : sum-from (pos 0 ∷ pos 1 ∷ pos 1 ∷ []) (pos 0 ∷ pos 1 ∷ pos 0 ∷ []) (negsuc 0 ∷ pos 0 ∷ negsuc 0 ∷ []) (pos 0 ∷ pos 0 ∷ negsuc 0 ∷ []) 6 160
+      ≡ done (stream (negsuc 0) (pos 0) ∷ stream (pos 0) (pos 1) ∷ stream (pos 1) (pos 1) ∷ stream (pos 1) (pos 0) ∷ stream (pos 0) (negsuc 0) ∷ stream (negsuc 0) (negsuc 0) ∷ [])
+  pub moved : sum-from (pos 10 ∷ []) (negsuc 0 ∷ []) A-ring-easts A-ring-norths 5 160
+      ≡ done (stream (pos 10) (pos 2) ∷ stream (pos 12) (pos 4) ∷ stream (pos 14) (pos 2) ∷ stream (pos 14) (negsuc 0) ∷ stream (pos 10) (negsuc 0) ∷ [])
+  pub empty : sum-from [] [] A-ring-easts A-ring-norths 0 144 ≡ done []
+  -- the limit is met; beyond it: 4 goes before 19, and 19 before 5
+  pub limit : sum-from (pos 1000000 ∷ []) (pos 0 ∷ []) (pos 0 ∷ []) (negsuc 999999 ∷ []) 1 96 ≡ done (stream (pos 1000000) (negsuc 999999) ∷ [])
+  pub beyond-limit : sum-from (pos 1000000 ∷ []) (pos 0 ∷ []) (pos 1 ∷ []) (pos 0 ∷ []) 1 96 ≡ refused 19 0
+  pub four-first : sum-from (pos 1000000 ∷ []) (pos 0 ∷ []) (pos 1 ∷ []) (pos 0 ∷ []) 1 95 ≡ refused 4 0
+  pub before-five : sum-from (pos 1000000 ∷ []) (pos 0 ∷ []) (pos 1 ∷ []) (pos 0 ∷ []) 0 96 ≡ refused 19 0
+  pub short : sum-from (pos 1 ∷ []) (pos 0 ∷ []) (pos 1 ∷ []) (pos 0 ∷ []) 0 96 ≡ refused 5 0
+
+pub sums-told : Sums
+unfolding sum-from those some-of first-place best-from best alike streams within beyond same side leftmost left-end furthest-round next-corner corners upper lower closed ring envelope sums sum sum-answer
+sums-told =
+    record {
+      crossing = refl;
+      along = refl;
+      six = refl;
+      moved = refl;
+      empty = refl;
+      limit = refl;
+      beyond-limit = refl;
+      four-first = refl;
+      before-five = refl;
+      short = refl;
+    }
 
 -- ---- the program
 

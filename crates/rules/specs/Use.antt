@@ -10,7 +10,7 @@ use lib.Signed.{_<ℤ_, leZ, ltZ}
 use lib.Dec.{eqb}
 use lib.ListN.{length}
 use Rattle.rules.specs.Lists.{alike, best-from, first-place}
-use Rattle.rules.specs.Streams.{Stream, same, turned, side, eqZ}
+use Rattle.rules.specs.Streams.{Stream, stream, same, turned, side, eqZ}
 use Rattle.rules.specs.Ring.{ring}
 
 unfoldable pub envelope : List Stream → Bool
@@ -85,11 +85,24 @@ covers (p ∷ []) s = same p s
 covers (p ∷ q ∷ []) s = eqZ (side p q s) (pos 0) && between (p .east) (q .east) (s .east) && between (p .north) (q .north) (s .north)
 covers (p ∷ q ∷ r ∷ ps) s = beside s p p (q ∷ r ∷ ps)
 
--- ---- join and turn about
+-- ---- join, sum and turn about
 
 -- "the ring of both rings' positions"
 unfoldable pub join : List Stream → List Stream → List Stream
 join r t = ring (r ++ t)
+
+-- two streams added, part by part
+abbrev pub added : Stream → Stream → Stream
+added p q = stream (p .east +ℤ q .east) (p .north +ℤ q .north)
+
+-- "all positions got by adding a corner of one to a corner of the other"
+unfoldable pub sums : List Stream → List Stream → List Stream
+sums [] t = []
+sums (p ∷ r) t = map (added p) t ++ sums r t
+
+-- the ring of them
+unfoldable pub sum : List Stream → List Stream → List Stream
+sum r t = ring (sums r t)
 
 -- "the ring of all positions with both signs changed"
 unfoldable pub turn-about : List Stream → List Stream
