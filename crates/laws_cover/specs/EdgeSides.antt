@@ -20,7 +20,7 @@ use Rattle.laws_outline.specs.Sidedness.{side-turned-about, turned-twice}
 use Rattle.laws_outline.specs.Under.{Through}
 use Rattle.laws_outline.specs.Chains.{upper-is}
 use Rattle.laws_outline.specs.SameOutline.{upper-through}
-use Rattle.laws_rings.specs.Halves.{both-halves, ring-halves}
+use Rattle.laws_rings.specs.Halves.{around, ring-halves}
 
 -- ---- ways from corner to corner
 
@@ -114,7 +114,7 @@ ring-sides xs = subst (Sides (NoneLeft (Of xs))) (sym (ring-halves xs)) (go (upp
     E : Stream → Stream → Type 0
     E p q = NoneLeft (Of xs) p q
 
-    go : {U W : List Stream} → UpperChain (Of xs) U → UpperChain (Through turned (Of xs)) W → Sides E (both-halves U (map turned W))
+    go : {U W : List Stream} → UpperChain (Of xs) U → UpperChain (Through turned (Of xs)) W → Sides E (around U (map turned W))
     go (empty f) (empty k) = tt
     go (empty f) (starts {p = w} k d) = absurd (f (turned w) (k .given))
     go (starts {p = a} {C = U} l g) (empty f) = absurd (f (turned a) (to a (l .given)))

@@ -15,7 +15,7 @@ use Rattle.rules.specs.Use.{set-on}
 use Rattle.rules.specs.Round.{Slope, height}
 
 -- the parts of some streams one after the other, as the solver numbers them. A course and a slope stand among them as streams
-abbrev flat : List Stream → List ℤ
+abbrev pub flat : List Stream → List ℤ
 flat [] = []
 flat (p ∷ ps) = p .east ∷ p .north ∷ flat ps
 

@@ -22,7 +22,7 @@ both-behind xs ys us vs b c s m =
     (λ n. on-inside (λ t. Memᴰ·append-right us) (c s n))
     (List·Memᴰ·append-cases xs m)
 
-itself-behind : (xs : List Stream) → AllBehind xs xs
+pub itself-behind : (xs : List Stream) → AllBehind xs xs
 itself-behind xs s m = on-self m
 
 pub same-join : (xs ys us vs : List Stream) → AllBehind xs us → AllBehind us xs → AllBehind ys vs → AllBehind vs ys →

@@ -1,0 +1,4 @@
+pub mod Closing
+pub mod Cut
+pub mod Scanned
+pub mod Stretch
