@@ -1,5 +1,6 @@
 pub mod UseAnswers
 pub mod Tests
+pub mod TwoRings
 pub mod RoundTheRing
 pub mod FirstBest
 pub mod Strongest

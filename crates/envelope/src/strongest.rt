@@ -24,7 +24,7 @@ pub enum StrongestSet {
 }
 
 // The first place that no corner beats.
-fn strongest_place(east: &[i32], north: &[i32], course: Stream) -> usize
+pub fn strongest_place(east: &[i32], north: &[i32], course: Stream) -> usize
     requires { ⌜ Sampled (now east) (now north) × Near (stream-of course) × (0 < length (now east)) ⌝ }
     ensures { λ r. ⌜ First (stronger (course .east) (course .north)) (streams (now (east .entry)) (now (north .entry)))
         (length (now (east .entry))) r ⌝ }

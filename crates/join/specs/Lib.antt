@@ -1,2 +1,2 @@
 pub mod ChainsClosed
-pub mod Verdict
+pub mod Passed
