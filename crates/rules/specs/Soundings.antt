@@ -18,7 +18,7 @@ use Rattle.rules.specs.Bridge.{ends, edge-over, bridge, spans, reported}
 use Rattle.rules.specs.Round.{Slope, Said, found, kept, slope-le, height, middle-slope, paired, slopes, keep, left-top, right-top, round-with, round}
 use Rattle.rules.specs.Use.{envelope, set-on, strongest, strongest-place, between, beside, covers, join, sums, sum, turn-about}
 use Rattle.rules.specs.Record.{word, twos, corners-at, record-corners, word-of, corners-bytes, record-of}
-use Rattle.rules.specs.Refusals.{Answer, refused, done}
+use Rattle.rules.specs.Refusals.{Answer, refused, done, scratch-after}
 use Rattle.rules.specs.Entries.{bridge-answer, round-answer, strongest-answer, cover-answer, record-answer, write-answer, sum-answer}
 use Rattle.rules.specs.Program.{decimal, unsigned, number, cut-at, line, text, samples, digits, printed-natural, printed-whole, printed-corners, printed, program}
 
@@ -181,12 +181,16 @@ pub record Sums : Type 0 where
   pub moved : sum-from (pos 10 ∷ []) (negsuc 0 ∷ []) A-ring-easts A-ring-norths 5 160
       ≡ done (stream (pos 10) (pos 2) ∷ stream (pos 12) (pos 4) ∷ stream (pos 14) (pos 2) ∷ stream (pos 14) (negsuc 0) ∷ stream (pos 10) (negsuc 0) ∷ [])
   pub empty : sum-from [] [] A-ring-easts A-ring-norths 0 144 ≡ done []
+  pub empty-second : sum-from A-ring-easts A-ring-norths [] [] 5 144 ≡ done []
   -- the limit is met; beyond it: 4 goes before 19, and 19 before 5
   pub limit : sum-from (pos 1000000 ∷ []) (pos 0 ∷ []) (pos 0 ∷ []) (negsuc 999999 ∷ []) 1 96 ≡ done (stream (pos 1000000) (negsuc 999999) ∷ [])
   pub beyond-limit : sum-from (pos 1000000 ∷ []) (pos 0 ∷ []) (pos 1 ∷ []) (pos 0 ∷ []) 1 96 ≡ refused 19 0
   pub four-first : sum-from (pos 1000000 ∷ []) (pos 0 ∷ []) (pos 1 ∷ []) (pos 0 ∷ []) 1 95 ≡ refused 4 0
   pub before-five : sum-from (pos 1000000 ∷ []) (pos 0 ∷ []) (pos 1 ∷ []) (pos 0 ∷ []) 0 96 ≡ refused 19 0
   pub short : sum-from (pos 1 ∷ []) (pos 0 ∷ []) (pos 1 ∷ []) (pos 0 ∷ []) 0 96 ≡ refused 5 0
+  -- 19 leaves the scratch as it was, 5 leaves it zero
+  pub scratch-left : scratch-after (sum-from (pos 1000000 ∷ []) (pos 0 ∷ []) (pos 1 ∷ []) (pos 0 ∷ []) 0 96) (7 ∷ 7 ∷ []) ≡ 7 ∷ 7 ∷ []
+  pub scratch-zero : scratch-after (sum-from (pos 1 ∷ []) (pos 0 ∷ []) (pos 1 ∷ []) (pos 0 ∷ []) 0 96) (7 ∷ 7 ∷ []) ≡ 0 ∷ 0 ∷ []
 
 pub sums-told : Sums
 unfolding sum-from those some-of first-place best-from best alike streams within beyond same side leftmost left-end furthest-round next-corner corners upper lower closed ring envelope sums sum sum-answer
@@ -197,11 +201,14 @@ sums-told =
       six = refl;
       moved = refl;
       empty = refl;
+      empty-second = refl;
       limit = refl;
       beyond-limit = refl;
       four-first = refl;
       before-five = refl;
       short = refl;
+      scratch-left = refl;
+      scratch-zero = refl;
     }
 
 -- ---- the program
