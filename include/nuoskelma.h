@@ -30,7 +30,7 @@ extern "C" {
 /* The most samples, list items, corners or joined corners. */
 #define NUOSKELMA_MOST 65536
 
-/* The words of scratch that so many samples, list items or joined corners ask for; they may hold anything before the call. */
+/* The words of scratch that so many samples, list items or corners of both rings ask for; they may hold anything before the call. */
 #define NUOSKELMA_SCRATCH(items) (16 * (size_t)(items) + 64)
 
 /* The bytes of the record of a ring of so many corners. */
@@ -56,7 +56,8 @@ enum nuoskelma_refusal {
     NUOSKELMA_REFUSED_BAD_TEXT = 15,            /* bad text: the program alone gives it */
     NUOSKELMA_REFUSED_VERSION = 16,             /* a record whose version is not 1 */
     NUOSKELMA_REFUSED_RECORD = 17,              /* a record of under 5 bytes, or with a length that is not right */
-    NUOSKELMA_REFUSED_STEP_WITHOUT_BRIDGE = 18  /* a chain step's list has no bridge: this never happens */
+    NUOSKELMA_REFUSED_STEP_WITHOUT_BRIDGE = 18, /* a chain step's list has no bridge: this never happens */
+    NUOSKELMA_REFUSED_SUM_BEYOND = 19           /* a corner of a sum beyond the limit: a part beyond 1,000,000 */
 };
 
 /* ---- Rank picker. */
@@ -223,6 +224,17 @@ nuoskelma_counted nuoskelma_turn_about(const int32_t *east, size_t east_len, con
  * result, and all the scratch is zero.
  */
 nuoskelma_counted nuoskelma_join(const int32_t *east, size_t east_len, const int32_t *north, size_t north_len, const int32_t *east2, size_t east2_len,
+    const int32_t *north2, size_t north2_len, int32_t *out_east, size_t out_east_len, int32_t *out_north, size_t out_north_len, uint32_t *scratch,
+    size_t scratch_len);
+
+/*
+ * The sum of two rings, as of a tide's and a surge's: the ring of all positions got by adding a corner of one to a corner of the other, at the front of two
+ * output lists, and its count, at most that of the corners of both rings. What lies beyond it in the lists stays. Adding an empty ring gives an empty ring.
+ * Scratch as for the join; all of it is zero afterwards.
+ * Refused: 1, 2, 3, 9 and 4 as for the join; 19, a corner of the sum is beyond the limit; 5, an output list is shorter than the sum, and all the scratch is
+ * zero.
+ */
+nuoskelma_counted nuoskelma_sum(const int32_t *east, size_t east_len, const int32_t *north, size_t north_len, const int32_t *east2, size_t east2_len,
     const int32_t *north2, size_t north2_len, int32_t *out_east, size_t out_east_len, int32_t *out_north, size_t out_north_len, uint32_t *scratch,
     size_t scratch_len);
 

@@ -1,5 +1,5 @@
 -- The contract of each function of the C face: the result is the face of the rules' answer, and every list lent to be written is left as the answer says; of
--- what is given (a), what is returned (r), and what is left of all that is lent (s). A contract of several equations is their product.
+-- what is given (a), what is returned (r), and what is left of all that is lent (s). A contract of several equations is their product, or `RingFace`.
 -- Assumes nothing.
 use mathlib.Core.Path.{_≡_, refl}
 use contract.Lifetimes.{Lfts}
@@ -8,12 +8,12 @@ use denote.Triple.Clauses.{AtExit}
 use borrow.Fn.Kinds.{Dens, endedOf}
 use Rattle.rules.specs.Refusals.{output-after, scratch-after}
 use Rattle.rules.specs.Door.{part, readings}
-use Rattle.rules.specs.Entries.{pick-answer, round-answer, kept-list, bridge-answer, chains-answer, ring-answer, hand-answer, hand-step-answer, strongest-answer, cover-answer, join-answer, turn-answer, door-answer, door-output-after, taken-east, taken-north, record-answer, write-answer}
+use Rattle.rules.specs.Entries.{pick-answer, round-answer, kept-list, bridge-answer, chains-answer, ring-answer, hand-answer, hand-step-answer, strongest-answer, cover-answer, join-answer, sum-answer, turn-answer, door-answer, door-output-after, taken-east, taken-north, record-answer, write-answer}
 use Rattle.exports.specs.Picks.{picked-face}
 use Rattle.exports.specs.Rounds.{round-face}
 use Rattle.exports.specs.Bridges.{bridge-face}
 use Rattle.exports.specs.Chains.{chains-face, uppers, lowers}
-use Rattle.exports.specs.Rings.{strongest-face, cover-face, counted-face, parts-east, parts-north}
+use Rattle.exports.specs.Rings.{strongest-face, cover-face, counted-face, parts-east, parts-north, RingFace}
 use Rattle.exports.specs.Hands.{hand-at, made-face, stepped-face}
 use Rattle.exports.specs.Doors.{part-face, readings-face}
 use Rattle.exports.specs.declared.picks.PickedC.{PickedC}
@@ -47,6 +47,8 @@ use Rattle.exports.proofs.uses.nuoskelma_cover.Kinds as cover-kinds
 use Rattle.exports.proofs.uses.nuoskelma_cover.Reads as cover-reads
 use Rattle.exports.proofs.rings.nuoskelma_join.Kinds as join-kinds
 use Rattle.exports.proofs.rings.nuoskelma_join.Reads as join-reads
+use Rattle.exports.proofs.rings.nuoskelma_sum.Kinds as sum-kinds
+use Rattle.exports.proofs.rings.nuoskelma_sum.Reads as sum-reads
 use Rattle.exports.proofs.uses.nuoskelma_turn_about.Kinds as turn-about-kinds
 use Rattle.exports.proofs.uses.nuoskelma_turn_about.Reads as turn-about-reads
 use Rattle.exports.proofs.doors.nuoskelma_part.Kinds as part-kinds
@@ -79,12 +81,9 @@ pub record Contracts : Type 1 where
       × ((now (s .1 .1 .1 .0) ≡ output-after lowers answer (now (a .1 .1 .1 .0)))
       × (now (s .1 .1 .1 .1 .0) ≡ scratch-after answer (now (a .1 .1 .1 .1 .0))))))
   pub of-ring : (κs : Lfts 5) (a : Dens κs ring-kinds.ps) (r : CountedC) (s : AtExit (endedOf 5 ring-kinds.ps ring-kinds.r) κs) →
-      let answer = ring-answer (now (a .0)) (now (a .1 .0)) (now (a .1 .1 .0)) (now (a .1 .1 .1 .0)) (now (a .1 .1 .1 .1 .0)) in
       ring-reads.Post κs a r s
-      ≡ ((r ≡ counted-face answer)
-      × ((now (s .1 .1 .0) ≡ output-after parts-east answer (now (a .1 .1 .0)))
-      × ((now (s .1 .1 .1 .0) ≡ output-after parts-north answer (now (a .1 .1 .1 .0)))
-      × (now (s .1 .1 .1 .1 .0) ≡ scratch-after answer (now (a .1 .1 .1 .1 .0))))))
+      ≡ RingFace (ring-answer (now (a .0)) (now (a .1 .0)) (now (a .1 .1 .0)) (now (a .1 .1 .1 .0)) (now (a .1 .1 .1 .1 .0))) r (now (a .1 .1 .0)) (now (s .1 .1 .0))
+      (now (a .1 .1 .1 .0)) (now (s .1 .1 .1 .0)) (now (a .1 .1 .1 .1 .0)) (now (s .1 .1 .1 .1 .0))
   pub of-hand-for : (κs : Lfts 0) (a : Dens κs hand-for-kinds.ps) (r : HandMade) (s : AtExit (endedOf 0 hand-for-kinds.ps hand-for-kinds.r) κs) →
       hand-for-reads.Post κs a r s ≡ (r ≡ made-face (hand-answer (a .0)))
   pub of-hand-step : (κs : Lfts 0) (a : Dens κs hand-step-kinds.ps) (r : HandStepped) (s : AtExit (endedOf 0 hand-step-kinds.ps hand-step-kinds.r) κs) →
@@ -94,13 +93,15 @@ pub record Contracts : Type 1 where
   pub of-cover : (κs : Lfts 2) (a : Dens κs cover-kinds.ps) (r : CoverTold) (s : AtExit (endedOf 2 cover-kinds.ps cover-kinds.r) κs) →
       cover-reads.Post κs a r s ≡ (r ≡ cover-face (cover-answer (now (a .0)) (now (a .1 .0)) (a .1 .1 .0) (a .1 .1 .1 .0)))
   pub of-join : (κs : Lfts 7) (a : Dens κs join-kinds.ps) (r : CountedC) (s : AtExit (endedOf 7 join-kinds.ps join-kinds.r) κs) →
-      let answer = join-answer (now (a .0)) (now (a .1 .0)) (now (a .1 .1 .0)) (now (a .1 .1 .1 .0)) (now (a .1 .1 .1 .1 .0))
-      (now (a .1 .1 .1 .1 .1 .0)) (now (a .1 .1 .1 .1 .1 .1 .0)) in
       join-reads.Post κs a r s
-      ≡ ((r ≡ counted-face answer)
-      × ((now (s .1 .1 .1 .1 .0) ≡ output-after parts-east answer (now (a .1 .1 .1 .1 .0)))
-      × ((now (s .1 .1 .1 .1 .1 .0) ≡ output-after parts-north answer (now (a .1 .1 .1 .1 .1 .0)))
-      × (now (s .1 .1 .1 .1 .1 .1 .0) ≡ scratch-after answer (now (a .1 .1 .1 .1 .1 .1 .0))))))
+      ≡ RingFace
+      (join-answer (now (a .0)) (now (a .1 .0)) (now (a .1 .1 .0)) (now (a .1 .1 .1 .0)) (now (a .1 .1 .1 .1 .0)) (now (a .1 .1 .1 .1 .1 .0)) (now (a .1 .1 .1 .1 .1 .1 .0)))
+      r (now (a .1 .1 .1 .1 .0)) (now (s .1 .1 .1 .1 .0)) (now (a .1 .1 .1 .1 .1 .0)) (now (s .1 .1 .1 .1 .1 .0)) (now (a .1 .1 .1 .1 .1 .1 .0)) (now (s .1 .1 .1 .1 .1 .1 .0))
+  pub of-sum : (κs : Lfts 7) (a : Dens κs sum-kinds.ps) (r : CountedC) (s : AtExit (endedOf 7 sum-kinds.ps sum-kinds.r) κs) →
+      sum-reads.Post κs a r s
+      ≡ RingFace
+      (sum-answer (now (a .0)) (now (a .1 .0)) (now (a .1 .1 .0)) (now (a .1 .1 .1 .0)) (now (a .1 .1 .1 .1 .0)) (now (a .1 .1 .1 .1 .1 .0)) (now (a .1 .1 .1 .1 .1 .1 .0)))
+      r (now (a .1 .1 .1 .1 .0)) (now (s .1 .1 .1 .1 .0)) (now (a .1 .1 .1 .1 .1 .0)) (now (s .1 .1 .1 .1 .1 .0)) (now (a .1 .1 .1 .1 .1 .1 .0)) (now (s .1 .1 .1 .1 .1 .1 .0))
   pub of-turn-about : (κs : Lfts 4) (a : Dens κs turn-about-kinds.ps) (r : CountedC) (s : AtExit (endedOf 4 turn-about-kinds.ps turn-about-kinds.r) κs) →
       let answer = turn-answer (now (a .0)) (now (a .1 .0)) (now (a .1 .1 .0)) (now (a .1 .1 .1 .0)) in
       turn-about-reads.Post κs a r s
@@ -138,6 +139,7 @@ contracts = record {
   of-strongest = λ κs a r s. refl;
   of-cover = λ κs a r s. refl;
   of-join = λ κs a r s. refl;
+  of-sum = λ κs a r s. refl;
   of-turn-about = λ κs a r s. refl;
   of-part = λ κs a r s. refl;
   of-readings = λ κs a r s. refl;

@@ -6,6 +6,7 @@ use contract.Lifetimes.{Lfts}
 use denote.Ref.{now}
 use denote.Triple.Clauses.{AtExit}
 use borrow.Fn.Kinds.{Dens, endedOf}
+use Rattle.exports.specs.Rings.{ring-face-one}
 use Rattle.exports.specs.declared.picks.PickedC.{PickedC}
 use Rattle.exports.specs.declared.rounds.RoundSaid.{RoundSaid}
 use Rattle.exports.specs.declared.bridges.Bridged.{Bridged}
@@ -37,6 +38,8 @@ use Rattle.exports.proofs.uses.nuoskelma_cover.Kinds as cover-kinds
 use Rattle.exports.proofs.uses.nuoskelma_cover.Reads as cover-reads
 use Rattle.exports.proofs.rings.nuoskelma_join.Kinds as join-kinds
 use Rattle.exports.proofs.rings.nuoskelma_join.Reads as join-reads
+use Rattle.exports.proofs.rings.nuoskelma_sum.Kinds as sum-kinds
+use Rattle.exports.proofs.rings.nuoskelma_sum.Reads as sum-reads
 use Rattle.exports.proofs.uses.nuoskelma_turn_about.Kinds as turn-about-kinds
 use Rattle.exports.proofs.uses.nuoskelma_turn_about.Reads as turn-about-reads
 use Rattle.exports.proofs.doors.nuoskelma_part.Kinds as part-kinds
@@ -69,7 +72,7 @@ chains-one κs a r r' s s' p q = (p .0 ∙ sym (q .0), p .1 .0 ∙ sym (q .1 .0)
 pub ring-one : (κs : Lfts 5) (a : Dens κs ring-kinds.ps) (r r' : CountedC) (s s' : AtExit (endedOf 5 ring-kinds.ps ring-kinds.r) κs) →
     ring-reads.Post κs a r s → ring-reads.Post κs a r' s' →
     (r ≡ r') × (now (s .1 .1 .0) ≡ now (s' .1 .1 .0)) × (now (s .1 .1 .1 .0) ≡ now (s' .1 .1 .1 .0)) × (now (s .1 .1 .1 .1 .0) ≡ now (s' .1 .1 .1 .1 .0))
-ring-one κs a r r' s s' p q = (p .0 ∙ sym (q .0), p .1 .0 ∙ sym (q .1 .0), p .1 .1 .0 ∙ sym (q .1 .1 .0), p .1 .1 .1 ∙ sym (q .1 .1 .1))
+ring-one κs a r r' s s' p q = ring-face-one p q
 
 pub hand-for-one : (κs : Lfts 0) (a : Dens κs hand-for-kinds.ps) (r r' : HandMade) (s s' : AtExit (endedOf 0 hand-for-kinds.ps hand-for-kinds.r) κs) →
     hand-for-reads.Post κs a r s → hand-for-reads.Post κs a r' s' → r ≡ r'
@@ -93,7 +96,15 @@ pub join-one : (κs : Lfts 7) (a : Dens κs join-kinds.ps) (r r' : CountedC) (s 
     × (now (s .1 .1 .1 .1 .0) ≡ now (s' .1 .1 .1 .1 .0))
     × (now (s .1 .1 .1 .1 .1 .0) ≡ now (s' .1 .1 .1 .1 .1 .0))
     × (now (s .1 .1 .1 .1 .1 .1 .0) ≡ now (s' .1 .1 .1 .1 .1 .1 .0))
-join-one κs a r r' s s' p q = (p .0 ∙ sym (q .0), p .1 .0 ∙ sym (q .1 .0), p .1 .1 .0 ∙ sym (q .1 .1 .0), p .1 .1 .1 ∙ sym (q .1 .1 .1))
+join-one κs a r r' s s' p q = ring-face-one p q
+
+pub sum-one : (κs : Lfts 7) (a : Dens κs sum-kinds.ps) (r r' : CountedC) (s s' : AtExit (endedOf 7 sum-kinds.ps sum-kinds.r) κs) →
+    sum-reads.Post κs a r s → sum-reads.Post κs a r' s' →
+    (r ≡ r')
+    × (now (s .1 .1 .1 .1 .0) ≡ now (s' .1 .1 .1 .1 .0))
+    × (now (s .1 .1 .1 .1 .1 .0) ≡ now (s' .1 .1 .1 .1 .1 .0))
+    × (now (s .1 .1 .1 .1 .1 .1 .0) ≡ now (s' .1 .1 .1 .1 .1 .1 .0))
+sum-one κs a r r' s s' p q = ring-face-one p q
 
 pub turn-about-one : (κs : Lfts 4) (a : Dens κs turn-about-kinds.ps) (r r' : CountedC) (s s' : AtExit (endedOf 4 turn-about-kinds.ps turn-about-kinds.r) κs) →
     turn-about-reads.Post κs a r s → turn-about-reads.Post κs a r' s' →

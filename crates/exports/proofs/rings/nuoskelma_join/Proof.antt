@@ -1,15 +1,12 @@
--- `exports::joins::nuoskelma_join` meets its contract: the face of what the join's promise gives, and the lists are as it leaves them.
+-- `exports::rings::nuoskelma_join` meets its contract: the face of what the join's promise gives, and the lists are as it leaves them.
 -- Assumes nothing.
-use mathlib.Core.Path.{_∙_}
 use borrow.Author.Needs.{needs}
 use Rattle.exports.specs.Rings.{outcome-face}
 use Rattle.exports.proofs.rings.nuoskelma_join.Statement.{statement}
 use Rattle.exports.proofs.rings.nuoskelma_join.Tie as tie
 
 returns : tie.Need-returns
-returns c =
-    let said = c .before .before .before .before .before .join .ensures in
-    (c .counted .ensures ∙ outcome-face said, (said .east-after, (said .north-after, said .scratch-is)))
+returns c = outcome-face (c .counted .ensures) (c .before .before .before .before .before .join .ensures)
 
 pub nuoskelma-join-spec : {M : Type 1} → statement M
 nuoskelma-join-spec =

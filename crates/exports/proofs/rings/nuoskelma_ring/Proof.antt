@@ -1,15 +1,12 @@
--- `exports::joins::nuoskelma_ring` meets its contract: the face of what the ring's promise gives, and the lists are as it leaves them.
+-- `exports::rings::nuoskelma_ring` meets its contract: the face of what the ring's promise gives, and the lists are as it leaves them.
 -- Assumes nothing.
-use mathlib.Core.Path.{_∙_}
 use borrow.Author.Needs.{needs}
 use Rattle.exports.specs.Rings.{outcome-face}
 use Rattle.exports.proofs.rings.nuoskelma_ring.Statement.{statement}
 use Rattle.exports.proofs.rings.nuoskelma_ring.Tie as tie
 
 returns : tie.Need-returns
-returns c =
-    let said = c .before .before .before .before .before .ring .ensures in
-    (c .counted .ensures ∙ outcome-face said, (said .east-after, (said .north-after, said .scratch-is)))
+returns c = outcome-face (c .counted .ensures) (c .before .before .before .before .before .ring .ensures)
 
 pub nuoskelma-ring-spec : {M : Type 1} → statement M
 nuoskelma-ring-spec =
