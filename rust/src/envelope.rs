@@ -29,6 +29,9 @@ pub struct Envelope {
     norths: Vec<i32>,
 }
 
+/// [`join`](crate::join) or [`sum`](crate::sum).
+type OfTwo = fn(&[i32], &[i32], &[i32], &[i32], &mut [i32], &mut [i32], &mut [u32]) -> Result<usize, Refusal>;
+
 impl Envelope {
     /// The envelope of samples: see [`ring`](crate::ring).
     ///
@@ -103,13 +106,14 @@ impl Envelope {
         record
     }
 
-    /// The envelope of no samples: joined with any other it gives the other.
+    /// The envelope of no samples: joined with any other it gives the other, and added to any other it gives no corner.
     ///
     /// ```
     /// use nuoskelma::Envelope;
     ///
     /// let other = Envelope::of(&[2, 2], &[5, 1])?;
     /// assert_eq!(Envelope::empty().join(&other)?, other);
+    /// assert!(Envelope::empty().plus(&other)?.is_empty());
     /// # Ok::<(), nuoskelma::Refusal>(())
     /// ```
     pub const fn empty() -> Envelope {
@@ -209,10 +213,39 @@ impl Envelope {
     /// # Ok::<(), nuoskelma::Refusal>(())
     /// ```
     pub fn join(&self, other: &Envelope) -> Result<Envelope, Refusal> {
+        self.with(other, crate::join)
+    }
+
+    /// The sum of both envelopes, that of every stream behind the one added to every stream behind the other: see [`sum`](crate::sum). Adding an empty one gives
+    /// an empty one.
+    ///
+    /// # Errors
+    /// 2, over 65,536 corners together; 19, a corner of the sum is beyond the limit: on the course (1, 0), (-1, 0), (0, 1) or (0, -1) the strongest sets of both
+    /// add up to more than it. No envelope has such a corner, but strongest sets can still be added, course by course.
+    ///
+    /// ```
+    /// use nuoskelma::{Envelope, LIMIT};
+    ///
+    /// let tide = Envelope::of(&[0, 2, 4], &[0, 5, 0])?;
+    /// let surge = Envelope::of(&[1, 3], &[2, 2])?;
+    /// let water = tide.plus(&surge)?;
+    /// assert!(water.corners().eq([(1, 2), (3, 7), (5, 7), (7, 2)]));
+    /// assert_eq!(water, surge.plus(&tide)?);
+    ///
+    /// // the strongest sets on a course add up
+    /// assert_eq!(water.strongest(1, 1)?.set, tide.strongest(1, 1)?.set + surge.strongest(1, 1)?.set);
+    ///
+    /// assert_eq!(tide.plus(&Envelope::of(&[0], &[LIMIT])?).unwrap_err().number, 19);
+    /// # Ok::<(), nuoskelma::Refusal>(())
+    /// ```
+    pub fn plus(&self, other: &Envelope) -> Result<Envelope, Refusal> {
+        self.with(other, crate::sum)
+    }
+
+    /// The ring that a call of two rings writes: it has at most the corners of both.
+    fn with(&self, other: &Envelope, call: OfTwo) -> Result<Envelope, Refusal> {
         let both = self.len() + other.len();
-        Envelope::of_call(both, |easts, norths| {
-            crate::join(&self.easts, &self.norths, &other.easts, &other.norths, easts, norths, &mut Scratch::of(both))
-        })
+        Envelope::of_call(both, |easts, norths| call(&self.easts, &self.norths, &other.easts, &other.norths, easts, norths, &mut Scratch::of(both)))
     }
 
     /// The envelope turned about, that of all its positions with both signs changed: see [`turn_about`](crate::turn_about). It is never refused.

@@ -125,6 +125,10 @@ extern "C" {
         east: *const i32, east_len: usize, north: *const i32, north_len: usize, east2: *const i32, east2_len: usize, north2: *const i32,
         north2_len: usize, out_east: *mut i32, out_east_len: usize, out_north: *mut i32, out_north_len: usize, scratch: *mut u32, scratch_len: usize,
     ) -> Counted;
+    fn nuoskelma_sum(
+        east: *const i32, east_len: usize, north: *const i32, north_len: usize, east2: *const i32, east2_len: usize, north2: *const i32,
+        north2_len: usize, out_east: *mut i32, out_east_len: usize, out_north: *mut i32, out_north_len: usize, scratch: *mut u32, scratch_len: usize,
+    ) -> Counted;
     fn nuoskelma_part(x: f64) -> PartTaken;
     fn nuoskelma_readings(
         east: *const f64, east_len: usize, north: *const f64, north_len: usize, out_east: *mut i32, out_east_len: usize, out_north: *mut i32,
@@ -227,26 +231,36 @@ pub fn turn_about(east: &[i32], north: &[i32], out_east: &mut [i32], out_north: 
     }
 }
 
-pub fn join(east: &[i32], north: &[i32], east2: &[i32], north2: &[i32], out_east: &mut [i32], out_north: &mut [i32], scratch: &mut [u32]) -> Counted {
-    unsafe {
-        nuoskelma_join(
-            east.as_ptr(),
-            east.len(),
-            north.as_ptr(),
-            north.len(),
-            east2.as_ptr(),
-            east2.len(),
-            north2.as_ptr(),
-            north2.len(),
-            out_east.as_mut_ptr(),
-            out_east.len(),
-            out_north.as_mut_ptr(),
-            out_north.len(),
-            scratch.as_mut_ptr(),
-            scratch.len(),
-        )
-    }
+/// The join and the sum: each makes a ring of two.
+macro_rules! of_two_rings {
+    ($name:ident, $call:ident) => {
+        pub fn $name(
+            east: &[i32], north: &[i32], east2: &[i32], north2: &[i32], out_east: &mut [i32], out_north: &mut [i32], scratch: &mut [u32],
+        ) -> Counted {
+            unsafe {
+                $call(
+                    east.as_ptr(),
+                    east.len(),
+                    north.as_ptr(),
+                    north.len(),
+                    east2.as_ptr(),
+                    east2.len(),
+                    north2.as_ptr(),
+                    north2.len(),
+                    out_east.as_mut_ptr(),
+                    out_east.len(),
+                    out_north.as_mut_ptr(),
+                    out_north.len(),
+                    scratch.as_mut_ptr(),
+                    scratch.len(),
+                )
+            }
+        }
+    };
 }
+
+of_two_rings!(join, nuoskelma_join);
+of_two_rings!(sum, nuoskelma_sum);
 
 pub fn part(x: f64) -> PartTaken {
     unsafe { nuoskelma_part(x) }

@@ -21,6 +21,10 @@
 //! // joined with that of two more samples
 //! let wider = envelope.join(&Envelope::of(&[6, 6], &[2, 1])?)?;
 //! assert!(wider.corners().eq([(0, 3), (2, 5), (6, 2), (6, 1), (4, 0), (0, 0)]));
+//!
+//! // a surge added: the strongest set of both together
+//! let surge = Envelope::of(&[1, 3], &[2, 2])?;
+//! assert_eq!(wider.plus(&surge)?.strongest(-1, 1)?.set, 3 + 1);
 //! # Ok::<(), nuoskelma::Refusal>(())
 //! ```
 //!
@@ -61,7 +65,7 @@ pub use refusal::{DoorRefusal, Refusal};
 pub use samples::{BothChains, Samples};
 pub use scratch::{scratch_words, Scratch};
 pub use streams::Streams;
-pub use using::{cover, join, strongest, turn_about, Edge, Hand, StrongestSet};
+pub use using::{cover, join, strongest, sum, turn_about, Edge, Hand, StrongestSet};
 
 /// The limit of a part, of either sign.
 pub const LIMIT: i32 = 1_000_000;

@@ -22,6 +22,7 @@ use std::fmt;
 /// | 16 | version not 1 | |
 /// | 17 | under 5 bytes, or length not a multiple of 8, or not the bytes that follow | |
 /// | 18 | a chain step's list has no bridge over its a | |
+/// | 19 | a corner of the sum beyond the limit | |
 ///
 /// A refusal alters nothing that was lent, except that 5 and 18 of a function with scratch leave all the scratch zero.
 ///
@@ -92,6 +93,7 @@ impl Refusal {
             16 => "version not 1",
             17 => "under 5 bytes, or length not a multiple of 8, or not the bytes that follow",
             18 => "a chain step's list has no bridge over its a",
+            19 => "a corner of the sum beyond the limit: no ring has it, but the strongest sets of both rings can be added",
             _ => "no number of the rules",
         }
     }

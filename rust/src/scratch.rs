@@ -3,7 +3,7 @@
 use crate::MOST;
 use std::ops::{Deref, DerefMut};
 
-/// How many words of scratch an entry over so many samples, list items or joined corners asks for: 16 for each, and 64 more.
+/// How many words of scratch an entry over so many samples, list items or corners of both rings asks for: 16 for each, and 64 more.
 ///
 /// ```
 /// assert_eq!(nuoskelma::scratch_words(7), 176);
@@ -12,8 +12,8 @@ pub const fn scratch_words(count: usize) -> usize {
     count.saturating_mul(16).saturating_add(64)
 }
 
-/// Scratch enough for calls over so many samples, list items or joined corners, to be lent again and again. It stands for a `[u32]`; a caller with words of its
-/// own can lend these instead.
+/// Scratch enough for calls over so many samples, list items or corners of both rings, to be lent again and again. It stands for a `[u32]`; a caller with words
+/// of its own can lend these instead.
 ///
 /// ```
 /// use nuoskelma::{pick, Scratch};

@@ -1,4 +1,4 @@
-//! Using a ring: hand, strongest set, cover test, turn about, join.
+//! Using a ring: hand, strongest set, cover test, turn about, join, sum.
 
 use crate::face;
 use crate::refusal::{unless_refused, Refusal};
@@ -143,5 +143,35 @@ pub fn join(
     east: &[i32], north: &[i32], east2: &[i32], north2: &[i32], out_east: &mut [i32], out_north: &mut [i32], scratch: &mut [u32],
 ) -> Result<usize, Refusal> {
     let r = face::join(east, north, east2, north2, out_east, out_north, scratch);
+    unless_refused(r.number, r.place, r.count)
+}
+
+/// Sum: the ring of all positions got by adding a corner of one ring to a corner of the other, at the front of two output lists, whose rest stays; and how many
+/// corners it has, at most as many as both rings together. Adding an empty ring gives an empty ring.
+///
+/// It is the ring of every stream behind the one added to every stream behind the other, as a surge to a tide. On each course its strongest set is that of both
+/// rings added.
+///
+/// Scratch: [`scratch_words`](crate::scratch_words) of the corners of both rings together; all of it is zero afterwards.
+///
+/// # Errors
+/// 1, 2, 3, 9 and 4 as for [`join`]. Then 19, a corner of the sum is beyond the limit: on the course (1, 0), (-1, 0), (0, 1) or (0, -1) the strongest sets of
+/// both add up to more than it. No ring has such a corner, but strongest sets can still be added, course by course. Then 5, an output list is shorter than the
+/// result.
+///
+/// ```
+/// use nuoskelma::{sum, Refusal, Scratch, LIMIT};
+///
+/// let (mut easts, mut norths) = ([0; 5], [0; 5]);
+/// let corners = sum(&[0, 2, 4], &[0, 5, 0], &[1, 3], &[2, 2], &mut easts, &mut norths, &mut Scratch::of(5)).unwrap();
+/// assert_eq!((&easts[..corners], &norths[..corners]), (&[1, 3, 5, 7][..], &[2, 7, 7, 2][..]));
+///
+/// let beyond = sum(&[LIMIT], &[0], &[1], &[0], &mut easts, &mut norths, &mut Scratch::of(2));
+/// assert_eq!(beyond, Err(Refusal { number: 19, place: 0 }));
+/// ```
+pub fn sum(
+    east: &[i32], north: &[i32], east2: &[i32], north2: &[i32], out_east: &mut [i32], out_north: &mut [i32], scratch: &mut [u32],
+) -> Result<usize, Refusal> {
+    let r = face::sum(east, north, east2, north2, out_east, out_north, scratch);
     unless_refused(r.number, r.place, r.count)
 }

@@ -33,6 +33,10 @@ fn behind_the_results() {
     join(&[2, 2], &[5, 1], &[0, 4], &[0, 0], &mut easts, &mut norths, &mut scratch).unwrap();
     assert_eq!((easts, norths), ([0, 2, 4, STAYS, STAYS], [0, 5, 0, STAYS]));
 
+    let (mut easts, mut norths) = ([STAYS; 5], [STAYS; 6]);
+    sum(&[2, 2], &[5, 1], &[0, 4], &[0, 0], &mut easts, &mut norths, &mut scratch).unwrap();
+    assert_eq!((easts, norths), ([2, 6, 6, 2, STAYS], [5, 5, 1, 1, STAYS, STAYS]));
+
     let (mut easts, mut norths) = ([STAYS; 3], [STAYS; 4]);
     turn_about(&[1, 3], &[2, 0], &mut easts, &mut norths).unwrap();
     assert_eq!((easts, norths), ([-3, -1, STAYS], [0, -2, STAYS, STAYS]));
@@ -64,6 +68,8 @@ fn scratch_after_a_call_that_is_done() {
     zero(|scratch| assert!(bridge(&EAST, &NORTH, 1, scratch).is_ok()));
     zero(|scratch| assert!(chains(&EAST, &NORTH, &mut output, &mut [0; 2], scratch).is_ok()));
     zero(|scratch| assert!(join(&[2, 2], &[5, 1], &[0, 4], &[0, 0], &mut easts, &mut norths, scratch).is_ok()));
+    zero(|scratch| assert!(sum(&[2, 2], &[5, 1], &[0, 4], &[0, 0], &mut easts, &mut norths, scratch).is_ok()));
+    zero(|scratch| assert!(sum(&[2, 2], &[5, 1], &[], &[], &mut [], &mut [], scratch).is_ok()));
 }
 
 #[test]
@@ -82,6 +88,11 @@ fn scratch_and_outputs_after_5() {
     let (mut easts, mut norths) = ([STAYS; 3], [STAYS; 2]);
     assert_eq!(join(&[2, 2], &[5, 1], &[0, 4], &[0, 0], &mut easts, &mut norths, &mut scratch).unwrap_err().number, 5);
     assert_eq!((easts, norths, scratch), ([STAYS; 3], [STAYS; 2], [0; WORDS]));
+
+    let mut scratch = noise();
+    let (mut easts, mut norths) = ([STAYS; 4], [STAYS; 3]);
+    assert_eq!(sum(&[2, 2], &[5, 1], &[0, 4], &[0, 0], &mut easts, &mut norths, &mut scratch).unwrap_err().number, 5);
+    assert_eq!((easts, norths, scratch), ([STAYS; 4], [STAYS; 3], [0; WORDS]));
 }
 
 #[test]
@@ -95,6 +106,8 @@ fn everything_after_other_refusals() {
     assert_eq!(chains(&EAST, &NORTH[1..], &mut upper, &mut lower, &mut scratch).unwrap_err().number, 1);
     assert_eq!(chains(&EAST, &NORTH, &mut upper, &mut lower, &mut scratch[..9]).unwrap_err().number, 4);
     assert_eq!(join(&EAST, &NORTH, &[], &[], &mut easts, &mut norths, &mut scratch).unwrap_err().number, 9);
+    assert_eq!(sum(&[], &[], &EAST, &NORTH, &mut easts, &mut norths, &mut scratch).unwrap_err().number, 9);
+    assert_eq!(sum(&[2, 2], &[5, 1], &[LIMIT], &[0], &mut easts, &mut norths, &mut scratch).unwrap_err().number, 19);
     assert_eq!(turn_about(&EAST, &NORTH, &mut easts, &mut norths).unwrap_err().number, 9);
     assert_eq!(readings(&[0.0, 0.5], &[0.0, 0.0], &mut easts, &mut norths).unwrap_err().number, 14);
     assert_eq!(read_record(&[0], &mut easts, &mut norths).unwrap_err().number, 16);

@@ -1,4 +1,4 @@
-//! Samples and envelopes that are owned: they answer as the slices do, over many lists; laws of joining and turning about; what is refused.
+//! Samples and envelopes that are owned: they answer as the slices do, over many lists; laws of joining, adding and turning about; what is refused.
 
 use nuoskelma::*;
 use std::collections::HashSet;
@@ -64,6 +64,11 @@ mod slices {
         ring_by(both + 3, |easts, norths| join(s.easts(), s.norths(), t.easts(), t.norths(), easts, norths, &mut Scratch::of(both)))
     }
 
+    pub fn added(s: &Envelope, t: &Envelope) -> Ring {
+        let both = s.len() + t.len();
+        ring_by(both + 3, |easts, norths| sum(s.easts(), s.norths(), t.easts(), t.norths(), easts, norths, &mut Scratch::of(both)))
+    }
+
     pub fn turned(s: &Envelope) -> Ring {
         ring_by(s.len() + 3, |easts, norths| turn_about(s.easts(), s.norths(), easts, norths))
     }
@@ -112,6 +117,7 @@ fn input_a() {
     let joined = Envelope::of(&[2, 2], &[5, 1]).unwrap().join(&Envelope::of(&[0, 4], &[0, 0]).unwrap()).unwrap();
     assert!(joined.corners().eq([(0, 0), (2, 5), (4, 0)]));
     assert!(joined.turned().corners().eq([(-4, 0), (0, 0), (-2, -5)]));
+    assert!(joined.plus(&joined.turned()).unwrap().corners().eq([(-4, 0), (-2, 5), (2, 5), (4, 0), (2, -5), (-2, -5)]));
 }
 
 #[test]
@@ -149,6 +155,7 @@ fn as_the_slices_answer() {
         covered += usize::from(envelope.covers(x, y) == Ok(true));
         flat += usize::from(envelope.len() < 3);
         assert_eq!(corners(envelope.join(&before)), slices::joined(&envelope, &before));
+        assert_eq!(corners(envelope.plus(&before)), slices::added(&envelope, &before));
         assert_eq!(corners(Ok(envelope.turned())), slices::turned(&envelope));
         before = envelope;
     }
@@ -202,6 +209,57 @@ fn laws_of_joining_and_turning_about() {
         assert!(s.iter().chain(&t).all(|(east, north)| both.covers(east, north) == Ok(true)));
     }
     assert!(larger > 500, "{larger}");
+}
+
+/// Every stream of the one added to every stream of the other.
+fn all_added(s: Streams<'_>, t: Streams<'_>) -> Samples {
+    s.flat_map(|(east, north)| t.clone().map(move |(east2, north2)| (east + east2, north + north2))).collect()
+}
+
+#[test]
+fn laws_of_adding() {
+    let mut some = Shifted(0x7e1d_e5a9);
+    let (mut more, mut beyond) = (0, 0);
+    for turn in 0..1500 {
+        // two of the largest parts reach beyond the limit, three of a third of it do not
+        let size = SIZES[turn % SIZES.len()].min(if turn % 2 == 0 { LIMIT } else { LIMIT / 3 });
+        let [s, t, u] = [8, 12, 4].map(|most| {
+            let count = some.below(most);
+            some.samples(count, size)
+        });
+        let [a, b, c] = [&s, &t, &u].map(|samples| samples.envelope().unwrap());
+
+        // its definition: the envelope of every stream behind the one added to every stream behind the other, unless a corner is beyond the limit
+        let all = all_added(s.iter(), t.iter());
+        let sum = a.plus(&b);
+        let far = all.iter().any(|(east, north)| east.abs() > LIMIT || north.abs() > LIMIT);
+        assert_eq!(sum, if far { no(19, 0) } else { all.envelope() });
+        assert_eq!(b.plus(&a), sum);
+        beyond += usize::from(far);
+        let Ok(sum) = sum else { continue };
+        more += usize::from(sum.len() > a.len().max(b.len()));
+        assert!(sum.len() <= a.len() + b.len());
+
+        // grouping, spreading over a join, turning about, a stream alone, nothing
+        if let (Ok(left), Ok(right)) = (sum.plus(&c), b.plus(&c).and_then(|both| a.plus(&both))) {
+            assert_eq!(left, right);
+        }
+        if let (Ok(with), Ok(other)) = (a.plus(&b.join(&c).unwrap()), a.plus(&c)) {
+            assert_eq!(with, sum.join(&other).unwrap());
+        }
+        assert_eq!(a.turned().plus(&b.turned()), Ok(sum.turned()));
+        assert_eq!(a.plus(&Envelope::of(&[0], &[0]).unwrap()).as_ref(), Ok(&a));
+        assert_eq!(a.plus(&Envelope::empty()), Ok(Envelope::empty()));
+        assert_eq!(Envelope::empty().plus(&a), Ok(Envelope::empty()));
+
+        // the strongest sets add up
+        let (x, y) = (some.part(size), some.part(size));
+        if (x, y) != (0, 0) && !sum.is_empty() {
+            let set = |e: &Envelope| e.strongest(x, y).unwrap().set;
+            assert_eq!(set(&sum), set(&a) + set(&b));
+        }
+    }
+    assert!(more > 500 && beyond > 50, "{more} {beyond}");
 }
 
 #[test]
@@ -354,6 +412,8 @@ fn two_envelopes_of_too_many_corners() {
     let large = many_cornered(170);
     assert!(large.len() > MOST / 2, "{}", large.len());
     assert_eq!(large.join(&large), no(2, 0));
+    assert_eq!(large.plus(&large), no(2, 0));
+    assert_eq!(large.plus(&Envelope::of(&[0], &[0]).unwrap()).as_ref(), Ok(&large));
     assert_eq!(large.join(&Envelope::empty()).as_ref(), Ok(&large));
     assert_eq!(large.turned().turned(), large);
     assert_eq!(large.edges().last(), Some(Edge { from: large.len() - 1, to: 0 }));

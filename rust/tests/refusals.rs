@@ -33,6 +33,7 @@ fn no_1_lists_of_different_length() {
     assert_eq!(cover(&[0], &[], 1, 0), no(1, 0));
     assert_eq!(turn_about(&[0], &[], &mut r.first, &mut r.second), no(1, 0));
     assert_eq!(join(&[0], &[0], &[0], &[], &mut r.first, &mut r.second, &mut r.scratch), no(1, 0));
+    assert_eq!(sum(&[0], &[0], &[0], &[], &mut r.first, &mut r.second, &mut r.scratch), no(1, 0));
     assert_eq!(readings(&[0.0], &[], &mut r.first, &mut r.second), door(1, 0, None));
     assert_eq!(write_record(&[0, LIMIT + 1], &[0], &mut []), no(1, 0));
 }
@@ -51,6 +52,7 @@ fn no_2_too_many() {
     assert_eq!(cover(&many, &many, 0, 0), no(2, 0));
     assert_eq!(turn_about(&many, &many, &mut r.first, &mut r.second), no(2, 0));
     assert_eq!(join(&[0], &[0], &many, &many, &mut r.first, &mut r.second, &mut r.scratch), no(2, 0));
+    assert_eq!(sum(&[0], &[0], &many, &many, &mut r.first, &mut r.second, &mut r.scratch), no(2, 0));
     assert_eq!(readings(&floats, &floats, &mut r.first, &mut r.second), door(2, 0, None));
     let mut record = vec![0; 5 + 8 * (MOST + 1)];
     record[0] = 1;
@@ -72,6 +74,7 @@ fn no_3_a_part_beyond_the_limit() {
     assert_eq!(cover(&[0], &[0], i32::MIN, 0), no(3, 0));
     assert_eq!(turn_about(&beyond, &[0, 0], &mut r.first, &mut r.second), no(3, 1));
     assert_eq!(join(&[0], &[0], &beyond, &[0, 0], &mut r.first, &mut r.second, &mut r.scratch), no(3, 1));
+    assert_eq!(sum(&[0], &[0], &beyond, &[0, 0], &mut r.first, &mut r.second, &mut r.scratch), no(3, 1));
     let record = [1, 0, 0, 0, 8, 127, 255, 255, 255, 0, 0, 0, 0];
     assert_eq!(read_record(&record, &mut r.first, &mut r.second), no(3, 0));
     assert_eq!(write_record(&beyond, &[0, 0], &mut []), no(3, 1));
@@ -87,6 +90,8 @@ fn no_4_scratch_too_short() {
     assert_eq!(chains(&[0, 1], &[0, 0], &mut r.upper, &mut r.lower, &mut r.scratch[..short]), no(4, 0));
     assert_eq!(join(&[0], &[0], &[1], &[0], &mut r.first, &mut r.second, &mut r.scratch[..short]), no(4, 0));
     assert_eq!(join(&[0], &[0], &[1], &[0], &mut r.first, &mut r.second, &mut r.scratch[..short + 1]), Ok(2));
+    assert_eq!(sum(&[0], &[0], &[1], &[0], &mut r.first, &mut r.second, &mut r.scratch[..short]), no(4, 0));
+    assert_eq!(sum(&[0], &[0], &[1], &[0], &mut r.first, &mut r.second, &mut r.scratch[..short + 1]), Ok(1));
 }
 
 #[test]
@@ -98,6 +103,7 @@ fn no_5_an_output_too_short() {
     assert_eq!(chains(&east, &north, &mut r.upper, &mut r.lower[..1], &mut r.scratch), no(5, 0));
     assert_eq!(turn_about(&east, &north, &mut r.first[..2], &mut r.second), no(5, 0));
     assert_eq!(join(&east, &north, &[5], &[0], &mut r.first, &mut r.second[..2], &mut r.scratch), no(5, 0));
+    assert_eq!(sum(&east, &north, &[5], &[0], &mut r.first, &mut r.second[..2], &mut r.scratch), no(5, 0));
     assert_eq!(readings(&[0.0], &[0.0], &mut [], &mut r.second), door(5, 0, None));
     assert_eq!(read_record(&[1, 0, 0, 0, 8, 0, 0, 0, 0, 0, 0, 0, 0], &mut r.first, &mut []), no(5, 0));
     assert_eq!(write_record(&east, &north, &mut [0; 28]), no(5, 0));
@@ -139,6 +145,8 @@ fn no_9_not_an_envelope() {
         assert_eq!(turn_about(east, north, &mut r.first, &mut r.second), no(9, 0));
         assert_eq!(join(east, north, &[], &[], &mut r.first, &mut r.second, &mut r.scratch), no(9, 0));
         assert_eq!(join(&[], &[], east, north, &mut r.first, &mut r.second, &mut r.scratch), no(9, 0));
+        assert_eq!(sum(east, north, &[], &[], &mut r.first, &mut r.second, &mut r.scratch), no(9, 0));
+        assert_eq!(sum(&[], &[], east, north, &mut r.first, &mut r.second, &mut r.scratch), no(9, 0));
         assert_eq!(write_record(east, north, &mut []), no(9, 0));
     }
     let record = [1, 0, 0, 0, 16, 0, 0, 0, 4, 0, 0, 0, 0, 0, 0, 0, 0, 0, 0, 0, 0];
@@ -148,8 +156,29 @@ fn no_9_not_an_envelope() {
 #[test]
 fn the_first_ring_before_the_second() {
     let mut r = room();
-    assert_eq!(join(&[0, 0], &[1, 1], &[0, LIMIT + 1], &[0, 0], &mut r.first, &mut r.second, &mut []), no(9, 0));
-    assert_eq!(join(&[0, LIMIT + 1], &[0, 0], &[0, 0], &[1, 1], &mut r.first, &mut r.second, &mut []), no(3, 1));
+    for of_two in [join, sum] {
+        assert_eq!(of_two(&[0, 0], &[1, 1], &[0, LIMIT + 1], &[0, 0], &mut r.first, &mut r.second, &mut []), no(9, 0));
+        assert_eq!(of_two(&[0, LIMIT + 1], &[0, 0], &[0, 0], &[1, 1], &mut r.first, &mut r.second, &mut []), no(3, 1));
+    }
+}
+
+#[test]
+fn no_19_a_sum_beyond_the_limit() {
+    let mut r = room();
+    // on each side, of one corner and of more; met on all sides
+    for (x, y) in [(1, 0), (-1, 0), (0, 1), (0, -1)] {
+        let (far_east, far_north) = ([x * LIMIT], [y * LIMIT]);
+        assert_eq!(sum(&far_east, &far_north, &[x], &[y], &mut r.first, &mut r.second, &mut r.scratch), no(19, 0));
+        assert_eq!(sum(&[-1, 0, 1, 0], &[0, 1, 0, -1], &far_east, &far_north, &mut r.first, &mut r.second, &mut r.scratch), no(19, 0));
+        assert_eq!(sum(&far_east, &far_north, &[y * LIMIT], &[x * LIMIT], &mut r.first, &mut r.second, &mut r.scratch), Ok(1));
+    }
+    // a sum within the limit of rings that reach it
+    assert_eq!(sum(&[LIMIT], &[-LIMIT], &[-LIMIT], &[LIMIT], &mut r.first, &mut r.second, &mut r.scratch), Ok(1));
+    assert_eq!((r.first[0], r.second[0]), (0, 0));
+    // after 4, before 5; an empty sum has no corner
+    assert_eq!(sum(&[LIMIT], &[0], &[1], &[0], &mut [], &mut [], &mut r.scratch[..95]), no(4, 0));
+    assert_eq!(sum(&[LIMIT], &[0], &[1], &[0], &mut [], &mut [], &mut r.scratch), no(19, 0));
+    assert_eq!(sum(&[LIMIT], &[0], &[], &[], &mut [], &mut [], &mut r.scratch), Ok(0));
 }
 
 #[test]
@@ -198,7 +227,7 @@ fn in_words() {
     assert_eq!(refusal.to_string(), "refused 10 0: an empty ring, or a hand whose place is not below its count");
     assert_eq!(part(0.5).unwrap_err().to_string(), "refused 14 0: a fraction: 0.5");
     assert_eq!(Refusal::from(part(f64::NAN).unwrap_err()), Refusal { number: 12, place: 0 });
-    for number in (1..=18).filter(|number| *number != 15) {
+    for number in (1..=19).filter(|number| *number != 15) {
         assert_ne!(Refusal { number, place: 0 }.words(), "no number of the rules");
     }
 }

@@ -48,6 +48,25 @@ fn p9_p10_joined_and_turned_about() {
     assert_eq!((back_east, back_north), ([-4, 0, -2], [0, 0, -5]));
 }
 
+/// The corners of a sum.
+fn added(east: &[i32], north: &[i32], east2: &[i32], north2: &[i32]) -> Vec<(i32, i32)> {
+    let (mut easts, mut norths) = ([9; 8], [9; 8]);
+    let corners = sum(east, north, east2, north2, &mut easts, &mut norths, &mut Scratch::of(8)).unwrap();
+    easts.into_iter().zip(norths).take(corners).collect()
+}
+
+#[test]
+fn sums() {
+    // two sides that cross; two along one line; a triangle and its turning about; one position moves a ring; an empty ring makes an empty one
+    assert_eq!(added(&[0, 2], &[0, 0], &[0, 0], &[1, 0]), [(0, 1), (2, 1), (2, 0), (0, 0)]);
+    assert_eq!(added(&[0, 1], &[0, 1], &[0, 2], &[0, 2]), [(0, 0), (3, 3)]);
+    assert_eq!(added(&[0, 1, 1], &[0, 1, 0], &[-1, 0, -1], &[0, 0, -1]), [(-1, 0), (0, 1), (1, 1), (1, 0), (0, -1), (-1, -1)]);
+    assert_eq!(added(&[10], &[-1], &RING_EAST, &RING_NORTH), [(10, 2), (12, 4), (14, 2), (14, -1), (10, -1)]);
+    assert_eq!(added(&[], &[], &RING_EAST, &RING_NORTH), []);
+    // the limit is met
+    assert_eq!(added(&[LIMIT], &[0], &[0], &[-LIMIT]), [(LIMIT, -LIMIT)]);
+}
+
 #[test]
 fn p11_p12_strongest_set_and_cover_of_a() {
     assert_eq!(strongest(&RING_EAST, &RING_NORTH, -1, 1), Ok(StrongestSet { set: 3, place: 0 }));
@@ -137,6 +156,7 @@ fn nothing_at_all() {
     let mut scratch = Scratch::of(0);
     assert_eq!(chains(&[], &[], &mut [], &mut [], &mut scratch), Ok(Chains { upper: 0, lower: 0 }));
     assert_eq!(join(&[], &[], &[], &[], &mut [], &mut [], &mut scratch), Ok(0));
+    assert_eq!(sum(&[], &[], &[], &[], &mut [], &mut [], &mut scratch), Ok(0));
     assert_eq!(turn_about(&[], &[], &mut [], &mut []), Ok(0));
     assert_eq!(cover(&[], &[], 0, 0), Ok(false));
     assert_eq!(readings(&[], &[], &mut [], &mut []), Ok(0));
