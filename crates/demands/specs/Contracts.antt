@@ -13,7 +13,7 @@ use Rattle.rules.specs.Streams.{streams}
 use Rattle.rules.specs.Refusals.{refused, done, output-after}
 use Rattle.rules.specs.Door.{part, readings}
 use Rattle.rules.specs.Program.{printed}
-use Rattle.rules.specs.Entries.{ring-answer, join-answer, strongest-answer, cover-answer, hand-answer, hand-step-answer, hand-after, door-answer, door-output-after, taken-east, taken-north, record-answer, write-answer, counted, easts, norths}
+use Rattle.rules.specs.Entries.{ring-answer, join-answer, sum-answer, strongest-answer, cover-answer, hand-answer, hand-step-answer, hand-after, door-answer, door-output-after, taken-east, taken-north, record-answer, write-answer, counted, easts, norths}
 use Rattle.picker.specs.Promise.{PickPromise}
 use Rattle.picker.specs.declared.Picked.{Picked}
 use Rattle.chains.specs.Promise.{ChainsPromise}
@@ -47,6 +47,8 @@ use Rattle.ring.proofs.ring.Kinds as ring-kinds
 use Rattle.ring.proofs.ring.Reads as ring-reads
 use Rattle.join.proofs.join.Kinds as join-kinds
 use Rattle.join.proofs.join.Reads as join-reads
+use Rattle.sum.proofs.sum.Kinds as sum-kinds
+use Rattle.sum.proofs.sum.Reads as sum-reads
 use Rattle.envelope.proofs.turn.turn_about.Kinds as turn-kinds
 use Rattle.envelope.proofs.turn.turn_about.Reads as turn-reads
 use Rattle.envelope.proofs.strongest.strongest.Kinds as strongest-kinds
@@ -93,6 +95,13 @@ pub record Contracts : Type 1 where
       join-reads.Post κs a r s
       ≡ Outcome
       (join-answer (now (a .0)) (now (a .1 .0)) (now (a .1 .1 .0)) (now (a .1 .1 .1 .0)) (now (a .1 .1 .1 .1 .0)) (now (a .1 .1 .1 .1 .1 .0))
+      (now (a .1 .1 .1 .1 .1 .1 .0))) r
+      (now (a .1 .1 .1 .1 .0)) (now (s .1 .1 .1 .1 .0)) (now (a .1 .1 .1 .1 .1 .0)) (now (s .1 .1 .1 .1 .1 .0))
+      (now (a .1 .1 .1 .1 .1 .1 .0)) (now (s .1 .1 .1 .1 .1 .1 .0))
+  pub of-sum : (κs : Lfts 7) (a : Dens κs sum-kinds.ps) (r : Counted) (s : AtExit (endedOf 7 sum-kinds.ps sum-kinds.r) κs) →
+      sum-reads.Post κs a r s
+      ≡ Outcome
+      (sum-answer (now (a .0)) (now (a .1 .0)) (now (a .1 .1 .0)) (now (a .1 .1 .1 .0)) (now (a .1 .1 .1 .1 .0)) (now (a .1 .1 .1 .1 .1 .0))
       (now (a .1 .1 .1 .1 .1 .1 .0))) r
       (now (a .1 .1 .1 .1 .0)) (now (s .1 .1 .1 .1 .0)) (now (a .1 .1 .1 .1 .1 .0)) (now (s .1 .1 .1 .1 .1 .0))
       (now (a .1 .1 .1 .1 .1 .1 .0)) (now (s .1 .1 .1 .1 .1 .1 .0))
@@ -147,6 +156,7 @@ contracts = record {
   of-round = λ κs a r s. refl;
   of-ring = λ κs a r s. refl;
   of-join = λ κs a r s. refl;
+  of-sum = λ κs a r s. refl;
   of-turn-about = λ κs a r s. refl;
   of-strongest = λ κs a r s. refl;
   of-cover = λ κs a r s. refl;

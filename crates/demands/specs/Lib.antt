@@ -3,7 +3,10 @@ pub mod Chains
 pub mod Ringed
 pub mod Records
 pub mod Written
+pub mod TwoRings
 pub mod Joined
+pub mod Added
+pub mod Trees
 pub mod RingTurned
 pub mod SamplesTurned
 pub mod Strongest

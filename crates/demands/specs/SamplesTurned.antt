@@ -18,7 +18,7 @@ use Rattle.demands.specs.Done.{left-ring}
 use Rattle.demands.specs.Chains as chains
 use Rattle.demands.specs.Ringed as rings
 use Rattle.demands.specs.RingTurned as turns
-use Rattle.demands.specs.Joined.{Made, ringed-by, turned-by, made-same}
+use Rattle.demands.specs.Trees.{Made, ringed-by, turned-by, made-same}
 
 -- the parts fs and ms are es and ns, every sign changed
 pub record About (es ns fs ms : List ℤ) : Type 0 where

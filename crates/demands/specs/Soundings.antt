@@ -17,8 +17,8 @@ use Rattle.rules.specs.Ring.{closed, ring}
 use Rattle.rules.specs.Bridge.{Bridge}
 use Rattle.rules.specs.Round.{Said, round}
 use Rattle.rules.specs.Use.{envelope, join, turn-about}
-use Rattle.rules.specs.Refusals.{Answer, done, Test, too-many, scratch-short, output-short, ring-tests, not-envelope, output-after, scratch-after}
-use Rattle.rules.specs.Entries.{Chains, kept-list, easts, norths, counted, ring-short, sample-tests, chains-answer, bridge-answer, round-answer, ring-answer, join-answer, turn-answer, strongest-answer, cover-answer}
+use Rattle.rules.specs.Refusals.{Answer, done, Test, output-short, ring-tests, not-envelope, output-after, scratch-after}
+use Rattle.rules.specs.Entries.{Chains, kept-list, easts, norths, counted, ring-short, sample-tests, two-ring-tests, chains-answer, bridge-answer, round-answer, ring-answer, join-answer, turn-answer, strongest-answer, cover-answer}
 use Rattle.rules.specs.Soundings.{A-easts, A-norths, A-scratch, A-ring-easts, A-ring-norths, A, A-ring, A-round, tall, flat, three, soundings, outlines, slips}
 use Rattle.laws_rings.specs.Rings.{envelope-ring}
 use Rattle.laws_rounds.specs.StepsAtMiddle.{no-step-without-bridge}
@@ -230,10 +230,7 @@ join-three east north scratch h k s =
     let flat-ring = given-ring flat (rings-of .1) in
     let room = le-ltb (length scratch) 128 s in
     not-refused
-    (ring-tests tall-easts tall-norths
-    ++ (not-envelope tall-easts tall-norths ∷ [])
-    ++ ring-tests flat-easts flat-norths
-    ++ (not-envelope flat-easts flat-norths ∷ too-many 4 ∷ scratch-short 4 scratch ∷ ring-short east north (join tall flat) ∷ []))
+    (two-ring-tests tall-easts tall-norths flat-easts flat-norths scratch ++ (ring-short east north (join tall flat) ∷ []))
     (join tall flat)
     (refl, (refl, (refl, (tall-ring, (refl, (refl, (refl, (flat-ring, (refl, (room, (fits east north three-is h k, tt)))))))))))
     ∙ ap done three-is
