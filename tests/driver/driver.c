@@ -24,7 +24,8 @@
    13  readings                    east, north (doubles), out_east, out_north
    14  record                      bytes, out_east, out_north
    15  write_record                east, north, out
-   16  no entry     bytes                                                       writes so many bytes of stack, from above
+   16  sum                         east, north, east2, north2, out_east, out_north, scratch
+   17  no entry     bytes                                                       writes so many bytes of stack, from above
 
    An op with 100 added is the same on a stack of its own, of 65,536 bytes and not one more: what lies below may not be touched, and a call that goes deeper
    ends this program by signal 11. Its response has one scalar more, how many bytes of that stack were used, counted down to the lowest one written.
@@ -398,6 +399,11 @@ static void write_record(void) {
     say_counted(nuoskelma_write_record(I32(0), I32(1), BYTES(2)));
 }
 
+static void sum(void) {
+    form(0, "iiiiiiu");
+    say_counted(nuoskelma_sum(I32(0), I32(1), I32(2), I32(3), I32(4), I32(5), U32(6)));
+}
+
 static void use_stack(void) {
     form(1, "");
     volatile uint8_t *used = __builtin_alloca((size_t)scalars[0]);
@@ -421,7 +427,8 @@ static void answer(uint32_t op) {
     case 13: readings(); break;
     case 14: record(); break;
     case 15: write_record(); break;
-    case 16: use_stack(); break;
+    case 16: sum(); break;
+    case 17: use_stack(); break;
     default: flush(); exit(UNKNOWN_OP);
     }
 }

@@ -27,6 +27,10 @@ enum {
     ONE_EAST,           /* ring: the count is wrong if all samples have one east */
     LIMIT_REFUSED,      /* part: 1,000,000 is refused */
     FIRST_RING,         /* join: the first ring is the answer */
+    SECOND_RING,        /* sum: the second ring is the answer */
+    SCRATCH_AFTER_19,   /* sum: a word of the scratch is altered by refusal 19 */
+    SOUTH_BEYOND,       /* sum: a corner beyond the limit in the south alone is not refused */
+    SHORT_FIRST,        /* sum: refusal 5 goes before 19 */
     NULL_READ,          /* cover: a word is read through the pointer of an empty list */
     DEEP                /* pick: 65,536 numbers take more than 64 KiB of stack */
 };
@@ -153,6 +157,36 @@ static nuoskelma_counted faulty_join(const int32_t *east, size_t east_len, const
     return r;
 }
 #define nuoskelma_join faulty_join
+
+/* Whether the least parts of two lists add up to less than the limit lets them. */
+static int below(const int32_t *parts, size_t parts_len, const int32_t *parts2, size_t parts2_len) {
+    int32_t least = 0, least2 = 0;
+    for (size_t k = 0; k < parts_len; k++)
+        if (k == 0 || parts[k] < least) least = parts[k];
+    for (size_t k = 0; k < parts2_len; k++)
+        if (k == 0 || parts2[k] < least2) least2 = parts2[k];
+    return least + least2 < -NUOSKELMA_LIMIT;
+}
+
+static nuoskelma_counted faulty_sum(const int32_t *east, size_t east_len, const int32_t *north, size_t north_len, const int32_t *east2, size_t east2_len,
+    const int32_t *north2, size_t north2_len, int32_t *out_east, size_t out_east_len, int32_t *out_north, size_t out_north_len, uint32_t *scratch,
+    size_t scratch_len) {
+    nuoskelma_counted r = nuoskelma_sum(east, east_len, north, north_len, east2, east2_len, north2, north2_len, out_east, out_east_len, out_north,
+        out_north_len, scratch, scratch_len);
+    if (FAULT == SECOND_RING && r.number == 0 && east_len > 0 && east2_len <= out_east_len && east2_len <= out_north_len) {
+        for (size_t k = 0; k < east2_len; k++) {
+            out_east[k] = east2[k];
+            out_north[k] = north2[k];
+        }
+        r.count = east2_len;
+    }
+    if (FAULT == SCRATCH_AFTER_19 && r.number == 19) scratch[0] = 0;
+    if (FAULT == SOUTH_BEYOND && r.number == 19 && below(north, north_len, north2, north2_len)) r.number = 0;
+    if (FAULT == SHORT_FIRST && r.number == 19 && out_east_len == 0) r.number = 5;
+    if (middle(east_len + east2_len) && r.number == 0) r.count++;
+    return r;
+}
+#define nuoskelma_sum faulty_sum
 
 static nuoskelma_part_taken faulty_part(double x) {
     nuoskelma_part_taken r = nuoskelma_part(x);

@@ -16,11 +16,14 @@ pub mod round;
 pub mod soundings;
 pub mod stack;
 pub mod strongest;
+pub mod sum;
 pub mod turn_about;
+pub mod two_rings;
 pub mod write_record;
 
 use crate::driver::{
-    Desk, Entry, BRIDGE, CHAINS, COVER, HAND_FOR, HAND_STEP, JOIN, PART, PICK, READINGS, RECORD, RING, ROUND, STRONGEST, TURN_ABOUT, WRITE_RECORD,
+    Desk, Entry, BRIDGE, CHAINS, COVER, HAND_FOR, HAND_STEP, JOIN, PART, PICK, READINGS, RECORD, RING, ROUND, STRONGEST, SUM, TURN_ABOUT,
+    WRITE_RECORD,
 };
 use crate::gen::{Chance, Samples};
 use crate::rules::{scratch_for, Answer};
@@ -56,7 +59,7 @@ const fn cases(
 }
 
 /// Every entry: `face::hold` holds this list to the header.
-pub const ENTRIES: [Cases; 14] = [
+pub const ENTRIES: [Cases; 15] = [
     cases("pick", &[&PICK], soundings::pick, pick::cases, Some(pick::middle), Some(pick::empty), pick::largest),
     cases("round", &[&ROUND], soundings::round, round::cases, Some(round::middle), Some(round::empty), round::largest),
     cases("bridge", &[&BRIDGE], soundings::bridge, bridge::cases, Some(bridge::middle), Some(bridge::empty), bridge::largest),
@@ -75,6 +78,7 @@ pub const ENTRIES: [Cases; 14] = [
         turn_about::largest,
     ),
     cases("join", &[&JOIN], soundings::join, join::cases, Some(join::middle), Some(join::empty), join::largest),
+    cases("sum", &[&SUM], soundings::sum, sum::cases, Some(sum::middle), Some(sum::empty), sum::largest),
     cases("part", &[&PART], soundings::part, part::cases, None, None, soundings::part),
     cases("readings", &[&READINGS], soundings::readings, readings::cases, Some(readings::middle), Some(readings::empty), readings::largest),
     cases("record", &[&RECORD], soundings::record, record::cases, Some(record::middle), Some(record::empty), record::largest),
@@ -97,7 +101,7 @@ fn fields(answer: Answer<Vec<i64>>, others: usize) -> Vec<i64> {
     }
 }
 
-/// Scratch for so many samples, list items or joined corners: mostly as long as it must be, else longer, or too short. Mostly noise.
+/// Scratch for so many samples, list items or corners of two rings: mostly as long as it must be, else longer, or too short. Mostly noise.
 fn scratch(chance: &mut Chance, count: usize) -> Vec<u32> {
     let enough = scratch_for(count);
     let length = match chance.below(24) {

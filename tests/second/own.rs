@@ -18,6 +18,7 @@ use crate::rules::program::program;
 use crate::rules::rank::pick;
 use crate::rules::record::{record, record_of, write_record};
 use crate::rules::round::{said, Said};
+use crate::rules::sum::{laid, pairs, summed};
 use crate::rules::using::{cover, hand_for, hand_step, is_envelope, joined, strongest, turned};
 use crate::rules::{has_bridge, scratch_for};
 
@@ -30,7 +31,7 @@ fn agree<T: PartialEq + std::fmt::Debug>(rules: T, other: T, about: impl Fn() ->
 
 type Check = fn() -> u64;
 
-const CHECKS: [(&str, Check); 17] = [
+const CHECKS: [(&str, Check); 19] = [
     ("soundings, one by one", soundings::check),
     ("refusals, taken away one by one", refusals::check),
     ("ranks by counting", ranks),
@@ -45,6 +46,8 @@ const CHECKS: [(&str, Check); 17] = [
     ("covers by all triangles of corners", covers),
     ("covers by all small weights", covers_by_weights),
     ("joins in two groupings, turned about by rotation", joins),
+    ("sums of the smallest rings by strongest sets", smallest_sums),
+    ("sums by all pairs and by all sides, in two orders and groupings, over joins, turned about", sums),
     ("floats by float arithmetic", floats),
     ("records written and read", records),
     ("texts byte by byte", texts),
@@ -306,6 +309,42 @@ fn joins() -> u64 {
         agree(turned(&turn), all, || "turning about twice".to_string());
     }
     40_000
+}
+
+/// Every two rings of nine positions. Their sums have parts from -2 to 2, so that no side is longer than 4 either way: two rings that have the same strongest
+/// sets on every course of such parts are one.
+fn smallest_sums() -> u64 {
+    let rings = smallest_rings();
+    let courses: Vec<(i32, i32)> = (-4..=4).flat_map(|x| (-4..=4).map(move |y| (x, y))).collect();
+    for first in &rings {
+        for second in &rings {
+            let sum = summed(first, second);
+            agree(brute::is_envelope(&sum), true, || format!("order of {sum:?}"));
+            for &(x, y) in &courses {
+                let set = |ring: &[Position]| brute::strongest(ring, x, y).map(|(set, _)| set);
+                let added = set(first).zip(set(second)).map(|(one, other)| one + other);
+                agree(set(&sum), added, || format!("strongest on ({x}, {y}) of the sum of {first:?} and {second:?}"));
+            }
+        }
+    }
+    (rings.len() * rings.len()) as u64
+}
+
+fn sums() -> u64 {
+    let mut chance = Chance::new(115);
+    for _ in 0..20_000 {
+        let rings = [ring(&mut chance).1, ring(&mut chance).1, ring(&mut chance).1];
+        let [first, second, third] = &rings;
+        let about = || format!("sum of {rings:?}");
+        let sum = summed(first, second);
+        agree(ring_of(&pairs(first, second)), ring_of(&laid(first, second)), about);
+        agree(&sum, &summed(second, first), about);
+        agree(summed(&sum, third), summed(first, &summed(second, third)), about);
+        agree(summed(&joined(first, second), third), joined(&summed(first, third), &summed(second, third)), about);
+        agree(turned(&sum), summed(&turned(first), &turned(second)), about);
+        agree(summed(first, &[]), Vec::new(), about);
+    }
+    20_000
 }
 
 fn floats() -> u64 {

@@ -1,5 +1,6 @@
 //! The rules once more, written from the rules and the later requests alone and by other methods than the library's: every number is picked by sorting, every
-//! chain is built by a sweep over sorted positions, a covered stream is given its weights, every property is tested as it is defined.
+//! chain is built by a sweep over sorted positions, a covered stream is given its weights, a sum lists all pairs or sorts all sides, every property is tested as
+//! it is defined.
 //!
 //! Each entry here takes what the library's entry is lent and leaves it as the library must: so a refusal's number and place, the answer, and the final
 //! content of every lent list are all said by one function.
@@ -11,12 +12,13 @@ pub mod program;
 pub mod rank;
 pub mod record;
 pub mod round;
+pub mod sum;
 pub mod using;
 
 /// A part lies from -LIMIT to LIMIT.
 pub const LIMIT: i32 = 1_000_000;
 
-/// At most so many samples, list items, corners or joined corners.
+/// At most so many samples, list items, corners or corners of two rings.
 pub const MOST: usize = 65_536;
 
 /// A number for no, and its place.
@@ -32,7 +34,7 @@ pub fn refuse<T>(number: u32, place: usize) -> Answer<T> {
     Err(Refusal { number, place })
 }
 
-/// The scratch that an entry over `count` samples, list items or joined corners needs.
+/// The scratch that an entry over `count` samples, list items or corners of two rings needs.
 pub const fn scratch_for(count: usize) -> usize {
     16 * count + 64
 }

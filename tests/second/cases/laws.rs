@@ -7,7 +7,7 @@ use std::time::Instant;
 
 use super::cover::beside;
 use crate::driver::{
-    fail, Entry, Lent, Library, BRIDGE, CHAINS, COVER, HAND_FOR, HAND_STEP, JOIN, PICK, READINGS, RECORD, RING, ROUND, STRONGEST, TURN_ABOUT,
+    fail, Entry, Lent, Library, BRIDGE, CHAINS, COVER, HAND_FOR, HAND_STEP, JOIN, PICK, READINGS, RECORD, RING, ROUND, STRONGEST, SUM, TURN_ABOUT,
     WRITE_RECORD,
 };
 use crate::gen::{of_sizes, samples, times, Chance, Samples};
@@ -100,13 +100,28 @@ impl Laws {
         Ring { east: i32s(&left[2], corners), north: i32s(&left[3], corners) }
     }
 
-    fn join(&mut self, first: &Ring, second: &Ring) -> Ring {
+    /// What is lent to an entry over two rings.
+    fn two_rings(&mut self, first: &Ring, second: &Ring) -> Vec<Lent> {
         let n = first.east.len() + second.east.len();
         let mut lent: Vec<Lent> = [&first.east, &first.north, &second.east, &second.north].map(|list| Lent::I32(list.clone())).into();
         lent.extend([self.room(n), self.room(n), self.scratch(n)]);
-        let (said, left) = self.done(&JOIN, &[], lent);
+        lent
+    }
+
+    /// The ring that an entry makes of two.
+    fn of_two(&mut self, entry: &'static Entry, first: &Ring, second: &Ring) -> Ring {
+        let lent = self.two_rings(first, second);
+        let (said, left) = self.done(entry, &[], lent);
         let corners = said[2] as usize;
         Ring { east: i32s(&left[4], corners), north: i32s(&left[5], corners) }
+    }
+
+    fn join(&mut self, first: &Ring, second: &Ring) -> Ring {
+        self.of_two(&JOIN, first, second)
+    }
+
+    fn sum(&mut self, first: &Ring, second: &Ring) -> Ring {
+        self.of_two(&SUM, first, second)
     }
 
     fn turned(&mut self, ring: &Ring) -> Ring {
@@ -186,6 +201,8 @@ impl Laws {
         self.of_turning(&rings[0], &rings[rings.len() - 1]);
         self.of_sets(&rings[0], &rings[rings.len() - 1]);
         self.of_cover(samples, &all, &rings[0]);
+        self.of_sums(samples);
+        self.of_limit(&rings[0], &rings[rings.len() - 1]);
         self.of_records(&all);
         self.of_hands(all.east.len());
     }
@@ -210,6 +227,76 @@ impl Laws {
         let shuffled = self.ring(&Samples { east: by(&samples.east), north: by(&samples.north) });
         self.hold("samples in another order have the same ring", &shuffled, &all, samples);
         all
+    }
+
+    /// Three rings, of a third of the samples each and a third as large, so that all three may be added.
+    fn of_sums(&mut self, samples: &Samples) {
+        let n = samples.east.len();
+        let third = |list: &[i32], k: usize| -> Vec<i32> { list[k * n / 3..(k + 1) * n / 3].iter().map(|part| part / 3).collect() };
+        let parts = [0, 1, 2].map(|k| Samples { east: third(&samples.east, k), north: third(&samples.north, k) });
+        let [first, second, other] = [0, 1, 2].map(|k| self.ring(&parts[k]));
+        let about = (&first, &second, &other);
+        let sum = self.sum(&first, &second);
+        let (exchanged, other_sum) = (self.sum(&second, &first), self.sum(&second, &other));
+        self.hold("two rings added in either order have one sum", &exchanged, &sum, &about);
+        let (one, another) = (self.sum(&sum, &other), self.sum(&first, &other_sum));
+        self.hold("rings added in another grouping have the same sum", one, another, &about);
+        let joined = self.join(&first, &second);
+        let first_sum = self.sum(&first, &other);
+        let (one, another) = (self.sum(&joined, &other), self.join(&first_sum, &other_sum));
+        self.hold("a ring added to a join is the join of the sums", one, another, &about);
+        let turned = (self.turned(&first), self.turned(&second));
+        let (one, another) = (self.turned(&sum), self.sum(&turned.0, &turned.1));
+        self.hold("a sum turned is the turned rings added", one, another, &about);
+        let none = self.sum(&first, &Ring::default());
+        self.hold("a ring added to the empty ring is empty", none, Ring::default(), &about);
+        self.of_streams_added(&parts[0], &parts[1], &sum);
+        self.of_sets_added(&first, &second, &sum);
+    }
+
+    /// The sum is the ring of every stream behind one ring added to every stream behind the other.
+    fn of_streams_added(&mut self, first: &Samples, second: &Samples, sum: &Ring) {
+        let (one, other) = (first.east.len(), second.east.len());
+        if one * other == 0 {
+            return;
+        }
+        let (p, q) = (self.chance.below(one), self.chance.below(other));
+        let stream = (first.east[p] + second.east[q], first.north[p] + second.north[q]);
+        let covered = self.covers(sum, stream);
+        self.hold("a sum covers every stream of one added to one of the other", covered, true, &(stream, sum));
+        if one * other <= 4_096 {
+            let added = |first: &[i32], second: &[i32]| first.iter().flat_map(|one| second.iter().map(move |other| one + other)).collect();
+            let all = self.ring(&Samples { east: added(&first.east, &second.east), north: added(&first.north, &second.north) });
+            self.hold("a sum is the ring of every stream of one added to every one of the other", &all, sum, &(first, second));
+        }
+    }
+
+    fn of_sets_added(&mut self, first: &Ring, second: &Ring, sum: &Ring) {
+        for reach in [1, 5, 1_000_000] {
+            let course = (self.chance.between(-reach, reach), self.chance.between(-reach, reach));
+            if course == (0, 0) {
+                continue;
+            }
+            let sets = [self.strongest(first, course), self.strongest(second, course), self.strongest(sum, course)];
+            let [first_set, second_set, both] = sets.map(|set| set.map(|(set, _)| set));
+            let added = first_set.zip(second_set).map(|(one, other)| one + other);
+            self.hold("a sum's strongest set is both rings' added", both, added, &(course, first, second));
+        }
+    }
+
+    /// Of rings as they come: their strongest sets to the four sides tell whether the sum is beyond the limit.
+    fn of_limit(&mut self, first: &Ring, second: &Ring) {
+        let beyond = [(1, 0), (-1, 0), (0, 1), (0, -1)].map(|course| {
+            let sets = self.strongest(first, course).zip(self.strongest(second, course));
+            sets.is_some_and(|((one, _), (other, _))| one + other > LIMIT as i64)
+        });
+        let beyond = beyond.contains(&true);
+        let lent = self.two_rings(first, second);
+        let (said, left) = self.library.call(&SUM, &[], &lent);
+        self.hold("a sum is refused 19 exactly if the strongest sets to some side add up beyond the limit", said[0] == 19, beyond, &(first, second));
+        if beyond {
+            self.hold("19 leaves everything lent as it was", left == lent, true, &(first, second));
+        }
     }
 
     fn of_turning(&mut self, first: &Ring, second: &Ring) {
@@ -370,7 +457,7 @@ impl Laws {
 }
 
 /// So many laws there are; each must have been held on some list.
-const LAWS: usize = 25;
+const LAWS: usize = 35;
 
 pub fn run(driver: &str) {
     let start = Instant::now();

@@ -3,7 +3,7 @@
 //! are not asked.
 
 use crate::driver::{
-    Case, Desk, Entry, Lent, BRIDGE, CHAINS, COVER, HAND_FOR, HAND_STEP, JOIN, PART, PICK, READINGS, RECORD, RING, ROUND, STRONGEST, TURN_ABOUT,
+    Case, Desk, Entry, Lent, BRIDGE, CHAINS, COVER, HAND_FOR, HAND_STEP, JOIN, PART, PICK, READINGS, RECORD, RING, ROUND, STRONGEST, SUM, TURN_ABOUT,
     WRITE_RECORD,
 };
 use crate::gen::{large_ring, Samples};
@@ -223,31 +223,86 @@ pub fn turn_about(desk: &mut Desk) {
     call(many(MOST + 1)).refused(desk, SAMPLES_REFUSED, 2, 0);
 }
 
-pub fn join(desk: &mut Desk) {
-    let call = |(east, north): (Lent, Lent), (east2, north2): (Lent, Lent), room: usize, count| {
-        let outputs = [Lent::I32(vec![8; room]), Lent::I32(vec![9; room]), scratch(count)];
-        Call { entry: &JOIN, scalars: Vec::new(), lent: [east, north, east2, north2].into_iter().chain(outputs).collect() }
-    };
+/// A call of an entry over two rings, with outputs of one length and scratch for so many corners.
+fn two_rings(entry: &'static Entry, (east, north): (Lent, Lent), (east2, north2): (Lent, Lent), room: usize, count: usize) -> Call {
+    let outputs = [Lent::I32(vec![8; room]), Lent::I32(vec![9; room]), scratch(count)];
+    Call { entry, scalars: Vec::new(), lent: [east, north, east2, north2].into_iter().chain(outputs).collect() }
+}
+
+/// What such a call leaves that is done.
+fn ring_written(east: &[i32], north: &[i32], count: usize) -> Vec<(usize, Lent)> {
+    vec![(4, i32s(east)), (5, i32s(north)), (6, cleared(count))]
+}
+
+fn ring_of_corners(corners: usize) -> (Lent, Lent) {
+    let Samples { east, north } = Samples::of(&large_ring(corners));
+    (Lent::I32(east), Lent::I32(north))
+}
+
+/// What every entry over two rings refuses.
+fn of_two_rings(desk: &mut Desk, entry: &'static Entry) {
     let one = || (i32s(&[1_000_000]), i32s(&[-1_000_000]));
-    let left = vec![(4, i32s(&[-1_000_000, 1_000_000])), (5, i32s(&[1_000_000, -1_000_000])), (6, cleared(3))];
-    call(ring_at_limit(), one(), 2, 3).leaves(desk, PART_TAKEN, &[0, 0, 2], left);
     for (east, north, place) in beyond_limit() {
-        call((east.clone(), north.clone()), one(), 3, 3).refused(desk, PART_REFUSED, 3, place);
-        call(one(), (east, north), 3, 3).refused(desk, PART_REFUSED, 3, place);
+        two_rings(entry, (east.clone(), north.clone()), one(), 3, 3).refused(desk, PART_REFUSED, 3, place);
+        two_rings(entry, one(), (east, north), 3, 3).refused(desk, PART_REFUSED, 3, place);
     }
-    call(many(MOST), one(), 3, 3).refused(desk, CORNERS_NOT_REFUSED, 9, 0);
-    call(many(MOST + 1), one(), 3, 3).refused(desk, SAMPLES_REFUSED, 2, 0);
-    call(one(), many(MOST + 1), 3, 3).refused(desk, SAMPLES_REFUSED, 2, 0);
+    two_rings(entry, many(MOST), one(), 3, 3).refused(desk, CORNERS_NOT_REFUSED, 9, 0);
+    two_rings(entry, many(MOST + 1), one(), 3, 3).refused(desk, SAMPLES_REFUSED, 2, 0);
+    two_rings(entry, one(), many(MOST + 1), 3, 3).refused(desk, SAMPLES_REFUSED, 2, 0);
+    let (first, second) = (ring_of_corners(32_768), ring_of_corners(32_769));
+    two_rings(entry, first, second, 32_769, MOST + 1).refused(desk, "65,537 corners of both refused 2", 2, 0);
+}
+
+pub fn join(desk: &mut Desk) {
+    let one = (i32s(&[1_000_000]), i32s(&[-1_000_000]));
+    let left = ring_written(&[-1_000_000, 1_000_000], &[1_000_000, -1_000_000], 3);
+    two_rings(&JOIN, ring_at_limit(), one, 2, 3).leaves(desk, PART_TAKEN, &[0, 0, 2], left);
+    of_two_rings(desk, &JOIN);
     // a ring joined with itself is itself
-    let of = |corners: usize| {
-        let Samples { east, north } = Samples::of(&large_ring(corners));
-        (Lent::I32(east), Lent::I32(north))
-    };
-    let (east, north) = of(32_768);
+    let (east, north) = ring_of_corners(32_768);
     let left = vec![(4, east.clone()), (5, north.clone()), (6, cleared(MOST))];
-    let twice = call((east.clone(), north.clone()), (east, north), 32_768, MOST);
-    twice.leaves(desk, "65,536 joined corners taken", &[0, 0, 32_768], left);
-    call(of(32_768), of(32_769), 32_769, MOST + 1).refused(desk, "65,537 joined corners refused 2", 2, 0);
+    let twice = two_rings(&JOIN, (east.clone(), north.clone()), (east, north), 32_768, MOST);
+    twice.leaves(desk, "65,536 corners of both taken", &[0, 0, 32_768], left);
+}
+
+pub fn sum(desk: &mut Desk) {
+    of_two_rings(desk, &SUM);
+    // a ring added to itself is twice as large
+    let Samples { east, north } = Samples::of(&large_ring(32_768));
+    let twice = |list: &[i32]| list.iter().map(|part| 2 * part).collect::<Vec<i32>>();
+    let left = ring_written(&twice(&east), &twice(&north), MOST);
+    let ring = (Lent::I32(east), Lent::I32(north));
+    two_rings(&SUM, ring.clone(), ring, 32_768, MOST).leaves(desk, "65,536 corners of both taken", &[0, 0, 32_768], left);
+    // the table of sums in the definitions
+    let of = |east: &[i32], north: &[i32]| (i32s(east), i32s(north));
+    let ring_a = || of(&[0, 2, 4, 4, 0], &[3, 5, 3, 0, 0]);
+    let nothing = || of(&[], &[]);
+    let mut done = |words, first: (Lent, Lent), second: (Lent, Lent), count, east: &[i32], north: &[i32]| {
+        let left = ring_written(east, north, count);
+        two_rings(&SUM, first, second, east.len(), count).leaves(desk, words, &[0, 0, east.len() as i64], left);
+    };
+    done("two sides that cross", of(&[0, 2], &[0, 0]), of(&[0, 0], &[1, 0]), 4, &[0, 2, 2, 0], &[1, 1, 0, 0]);
+    done("two along one line", of(&[0, 1], &[0, 1]), of(&[0, 2], &[0, 2]), 4, &[0, 3], &[0, 3]);
+    let (triangle, about) = (of(&[0, 1, 1], &[0, 1, 0]), of(&[-1, 0, -1], &[0, 0, -1]));
+    done("a triangle and its turning about", triangle, about, 6, &[-1, 0, 1, 1, 0, -1], &[0, 1, 1, 0, -1, -1]);
+    done("one position moves a ring", of(&[10], &[-1]), ring_a(), 6, &[10, 12, 14, 14, 10], &[2, 4, 2, -1, -1]);
+    done("adding an empty ring gives an empty ring", nothing(), ring_a(), 5, &[], &[]);
+    done("adding an empty ring gives an empty ring", ring_a(), nothing(), 5, &[], &[]);
+    done("adding an empty ring gives an empty ring", nothing(), nothing(), 0, &[], &[]);
+    for (x, y) in [(1_000_000, 0), (-1_000_000, 0), (0, 1_000_000), (0, -1_000_000)] {
+        let (far, beside) = (of(&[x], &[y]), of(&[-y], &[x]));
+        done("the limit is met", far.clone(), beside, 2, &[x - y], &[y + x]);
+        done("no corner of an empty sum is beyond the limit", far, nothing(), 1, &[], &[]);
+    }
+    for (x, y) in [(1, 0), (-1, 0), (0, 1), (0, -1)] {
+        let (far, step) = (of(&[1_000_000 * x], &[1_000_000 * y]), of(&[x], &[y]));
+        two_rings(&SUM, far.clone(), step.clone(), 1, 2).refused(desk, "one beyond the limit refused 19", 19, 0);
+        two_rings(&SUM, step.clone(), far.clone(), 0, 2).refused(desk, "19 before 5", 19, 0);
+        // scratch for one corner is too short for two
+        two_rings(&SUM, far, step, 1, 1).refused(desk, "4 before 19", 4, 0);
+    }
+    let one = || of(&[1], &[0]);
+    two_rings(&SUM, one(), one(), 0, 2).leaves(desk, "5 leaves the scratch zero", &[5, 0, 0], vec![(6, cleared(2))]);
 }
 
 pub fn part(desk: &mut Desk) {

@@ -8,7 +8,8 @@ use crate::rules::door::readings;
 use crate::rules::rank::pick;
 use crate::rules::record::{record, write_record};
 use crate::rules::round::round;
-use crate::rules::using::{cover, hand_for, hand_step, join, strongest, turn_about, Hand};
+use crate::rules::sum::sum;
+use crate::rules::using::{cover, hand_for, hand_step, join, strongest, turn_about, Hand, OfTwoRings};
 use crate::rules::{scratch_for, Answer, Refusal, MOST};
 
 /// Compares what an entry answered with the number and place wanted, 0 for done, and says that one more step agreed.
@@ -20,7 +21,8 @@ fn step<T>(entry: &str, answer: Answer<T>, number: u32, place: usize) -> u64 {
 
 pub fn check() -> u64 {
     let over_samples = pick_order() + round_order() + bridge_order() + chain_order();
-    over_samples + hand_order() + ring_use_order() + join_order() + door_order() + record_order() + write_order()
+    let over_rings = hand_order() + ring_use_order() + two_ring_order("join", join) + two_ring_order("sum", sum) + sum_order();
+    over_samples + over_rings + door_order() + record_order() + write_order()
 }
 
 /// So many samples, (3, -4) each.
@@ -158,26 +160,57 @@ fn ring_use_order() -> u64 {
     steps + step("turn about", turn_about(&long.east, &long.north, &mut [], &mut []), 2, 0)
 }
 
-fn join_order() -> u64 {
+/// An entry over two rings; of two that are equal it makes one of as many corners.
+fn two_ring_order(name: &str, entry: OfTwoRings) -> u64 {
     let good: (&[i32], &[i32]) = (&[0, 2, 4], &[0, 5, 0]);
     let uneven: (&[i32], &[i32]) = (&[0, 2], &[0, 5, 0]);
     let far: (&[i32], &[i32]) = (&[0, 2, 1_000_001], &[0, 5, 0]);
     let no_ring: (&[i32], &[i32]) = (&[2, 0, 4], &[5, 0, 0]);
     let long = many(MOST + 1);
     let long: (&[i32], &[i32]) = (&long.east, &long.north);
-    let tell = |first, second| join(first, second, &mut [9; 2], &mut [9; 3], &mut [7; 159]);
+    let tell = |first, second| entry(first, second, &mut [9; 2], &mut [9; 3], &mut [7; 159]);
     let mut steps = 0;
     for (bad, number, place) in [(uneven, 1, 0), (long, 2, 0), (far, 3, 2), (no_ring, 9, 0)] {
         for other in [good, uneven, long, far, no_ring] {
-            steps += step("join", tell(bad, other), number, place);
+            steps += step(name, tell(bad, other), number, place);
         }
-        steps += step("join", tell(good, bad), number, place);
+        steps += step(name, tell(good, bad), number, place);
     }
     let mut scratch = vec![7; 160];
-    steps += step("join", tell(good, good), 4, 0);
-    steps += step("join", join(good, good, &mut [9; 2], &mut [9; 3], &mut scratch), 5, 0);
+    steps += step(name, tell(good, good), 4, 0);
+    steps += step(name, entry(good, good, &mut [9; 2], &mut [9; 3], &mut scratch), 5, 0);
     agree(scratch, vec![0; 160], || "refusal 5 leaves the scratch zero".to_string());
-    steps + step("join", join(good, good, &mut [9; 3], &mut [9; 3], &mut [7; 160]), 0, 0)
+    steps + step(name, entry(good, good, &mut [9; 3], &mut [9; 3], &mut [7; 160]), 0, 0)
+}
+
+/// Two corners whose sum is at the limit on a side, then one beyond it: 4 before 19, 19 before 5. Nothing lent is altered by 19.
+fn sum_order() -> u64 {
+    let mut steps = 0;
+    for (x, y) in [(1, 0), (-1, 0), (0, 1), (0, -1)] {
+        let corner = |by: i32| ([by * x], [by * y]);
+        let (one, at, beyond) = (corner(400_000), corner(600_000), corner(600_001));
+        let mut tell = |second: &([i32; 1], [i32; 1]), room: usize, words: usize, number: u32| {
+            let (mut east, mut north, mut scratch) = (vec![8; room], vec![9; 1], vec![7; words]);
+            let answer = sum((&one.0, &one.1), (&second.0, &second.1), &mut east, &mut north, &mut scratch);
+            steps += step("sum", answer, number, 0);
+            let left = match number {
+                0 => (vec![1_000_000 * x; 1], vec![1_000_000 * y; 1], vec![0; words]),
+                5 => (vec![8; room], vec![9; 1], vec![0; words]),
+                _ => (vec![8; room], vec![9; 1], vec![7; words]),
+            };
+            agree((east, north, scratch), left, || format!("what a sum leaves that is answered {number}"));
+        };
+        tell(&beyond, 0, 95, 4);
+        tell(&beyond, 0, 96, 19);
+        tell(&beyond, 1, 96, 19);
+        tell(&at, 0, 95, 4);
+        tell(&at, 0, 96, 5);
+        tell(&at, 1, 96, 0);
+    }
+    let far: (&[i32], &[i32]) = (&[1_000_000], &[1_000_000]);
+    steps += step("sum", sum(far, (&[], &[]), &mut [], &mut [], &mut [7; 79]), 4, 0);
+    steps += step("sum", sum(far, (&[], &[]), &mut [], &mut [], &mut [7; 80]), 0, 0);
+    steps + step("sum", sum((&[], &[]), far, &mut [], &mut [], &mut [7; 80]), 0, 0)
 }
 
 fn door_order() -> u64 {

@@ -86,11 +86,20 @@ pub fn joined(first: &[Position], second: &[Position]) -> Vec<Position> {
     ring_of(&[first, second].concat())
 }
 
-pub fn join(first: (&[i32], &[i32]), second: (&[i32], &[i32]), out_east: &mut [i32], out_north: &mut [i32], scratch: &mut [u32]) -> Answer<usize> {
+/// An entry over two rings, each two lists: it writes a ring, and says how many corners it has.
+pub type OfTwoRings = fn((&[i32], &[i32]), (&[i32], &[i32]), &mut [i32], &mut [i32], &mut [u32]) -> Answer<usize>;
+
+/// Refusals of two rings: the first one's, the second one's, 2 for both, 4; then their corners.
+pub fn two_rings(first: (&[i32], &[i32]), second: (&[i32], &[i32]), scratch: &[u32]) -> Answer<(Vec<Position>, Vec<Position>)> {
     let first = envelope(first.0, first.1)?;
     let second = envelope(second.0, second.1)?;
     not_too_many(first.len() + second.len())?;
     scratch_enough(scratch, first.len() + second.len())?;
+    Ok((first, second))
+}
+
+pub fn join(first: (&[i32], &[i32]), second: (&[i32], &[i32]), out_east: &mut [i32], out_north: &mut [i32], scratch: &mut [u32]) -> Answer<usize> {
+    let (first, second) = two_rings(first, second, scratch)?;
     scratch.fill(0);
     write_ring(&joined(&first, &second), out_east, out_north)
 }
