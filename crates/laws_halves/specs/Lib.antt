@@ -1,4 +1,5 @@
 pub mod Closing
+pub mod Count
 pub mod Cut
 pub mod Scanned
 pub mod Stretch

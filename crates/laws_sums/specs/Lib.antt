@@ -4,4 +4,5 @@ pub mod Merge
 pub mod Merged
 pub mod MergePlaces
 pub mod TwoMerges
+pub mod FewCorners
 pub mod Beyond

@@ -81,7 +81,7 @@ merge-is p (q ∷ C) u D = weave-is p q (λ w E. merge-on q C w E) (λ w E. merg
 
 -- ---- the count and the ends of a merge
 
-merges-count : {p u : Stream} {C D M : List Stream} → Merges p C u D M → length M ≤ length C + length D
+pub merges-count : {p u : Stream} {C D M : List Stream} → Merges p C u D M → length M ≤ length C + length D
 merges-count over = omega arith
 merges-count (first n m) = let h = merges-count m in omega arith
 merges-count (second n m) = let h = merges-count m in omega arith
@@ -94,7 +94,7 @@ merge-count [] D = omega arith
 merge-count (p ∷ C) [] = omega arith
 merge-count (p ∷ C) (u ∷ D) = omega (arith, merges-count (merge-is p C u D))
 
-merges-last : {p u : Stream} {C D M : List Stream} → Merges p C u D M
+pub merges-last : {p u : Stream} {C D M : List Stream} → Merges p C u D M
     → sample (added p u ∷ M) (length M) ≡ added (sample (p ∷ C) (length C)) (sample (u ∷ D) (length D))
 merges-last over = refl
 merges-last (first n m) = merges-last m
