@@ -1,12 +1,13 @@
 //! The peers held against each other, without the library: a ratio to a peer that answers something else would say nothing.
 
 use crate::inputs::{Chance, Sheet, SHEETS};
-use crate::peers::{corners, peers};
-use crate::{andrew, literal, picking, same, writing};
+use crate::peers::{corners, peers, sum_peers};
+use crate::{adding, andrew, literal, picking, same, writing};
 
 pub fn check() {
     pickers();
     writers();
+    adders();
     short_sheets();
     long_sheets();
 }
@@ -40,6 +41,42 @@ fn writers() {
         same("the plain writer on samples", write(&sheet), if own { Ok(writing::size(sheet.len())) } else { Err(9) });
     }
     println!("the plain writer takes rings alone, on 20,000 sheets");
+}
+
+/// The plain sum of two rings is the ring of all pairs of corners.
+fn adders() {
+    let mut chance = Chance::new(5);
+    for _ in 0..20_000 {
+        let reach = [1, 3, 600_000][chance.below(3)];
+        let [first, second] = [(); 2].map(|()| {
+            let mut sheet = Sheet::default();
+            for _ in 0..chance.below(7) {
+                sheet.push(chance.between(-reach, reach) as f64, chance.between(-reach, reach) as f64);
+            }
+            writing::ring(&sheet)
+        });
+        let pairs = adding::pairs(&first, &second);
+        let beyond = pairs.east.iter().chain(&pairs.north).any(|part| part.abs() > 1_000_000);
+        let mut sum = Sheet::default();
+        let answer = adding::sum(&first, &second, &mut sum);
+        same("the plain sum, or its refusal", answer, if beyond { Err(19) } else { Ok(sum.len()) });
+        let ring = if beyond { Sheet::default() } else { writing::ring(&pairs) };
+        same("the plain sum, beside the ring of all pairs", (sum.east, sum.north), (ring.east, ring.north));
+    }
+    println!("the plain sum is the ring of all pairs, on 20,000 times two rings");
+    for n in [16, 256, 1_024, 4_096] {
+        let (first, second) = adding::rings(&mut Chance::new(6), n);
+        let mut sum = Sheet::default();
+        let answer = adding::sum(&first, &second, &mut sum);
+        same("the plain sum of two rings near a circle", answer, Ok(sum.len()));
+        let mut outline: Vec<(i32, i32)> = (0..sum.len() as u32).map(|place| sum.position(place)).collect();
+        outline.sort_unstable();
+        println!("two rings of {n} corners: {} corners of the plain sum", outline.len());
+        for peer in sum_peers() {
+            let found = peer.take(&[&first, &second]).corners();
+            println!("  {} answers {} {} corners", peer.name(), if found == outline { "the same" } else { "other," }, found.len());
+        }
+    }
 }
 
 /// Holds the literal chains against Andrew's, and the literal bridge over a against the edge of Andrew's upper chain.
@@ -77,7 +114,7 @@ fn long_sheets() {
             let outline = corners(&sheet, &held(&sheet, a));
             println!("{name}, {n} samples: {} corners, literal chains and bridge agree with Andrew's", outline.len());
             for peer in &peers {
-                let found = peer.take(&sheet).corners();
+                let found = peer.take(&[&sheet]).corners();
                 if found != outline {
                     println!("  {} answers {} other corners", peer.name(), found.len());
                 }

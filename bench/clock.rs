@@ -49,10 +49,16 @@ pub fn done<T>(answer: T) {
     black_box(answer);
 }
 
-/// A ratio in three figures.
+/// A ratio in three figures; below a tenth in two.
 pub fn ratio(part: f64, whole: f64) -> String {
     let ratio = part / whole;
-    let places = if ratio < 10.0 { 2 } else { 1 };
+    let places = match ratio {
+        10.0.. => 1,
+        0.1.. => 2,
+        0.01.. => 3,
+        0.001.. => 4,
+        _ => 5,
+    };
     format!("{ratio:.places$}")
 }
 

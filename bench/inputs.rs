@@ -1,4 +1,4 @@
-//! What is timed: lists of numbers for the picker and sheets of samples for the bridge, the chains and the rings that are written, the same at every run.
+//! What is timed: lists of numbers for the picker and sheets of samples for the bridge, the chains and the rings that are written or added, the same at every run.
 
 use std::f64::consts::TAU;
 
@@ -156,9 +156,18 @@ fn few_easts(chance: &mut Chance, n: usize) -> Sheet {
 
 /// As near as whole numbers come to the circle of the limit.
 pub fn circle(chance: &mut Chance, n: usize) -> Sheet {
+    circle_of(chance, n, LIMIT)
+}
+
+/// As near as they come to the circle of half the limit.
+pub fn small_circle(chance: &mut Chance, n: usize) -> Sheet {
+    circle_of(chance, n, LIMIT / 2.0)
+}
+
+fn circle_of(chance: &mut Chance, n: usize, radius: f64) -> Sheet {
     sheet(n, |_| {
         let turn = TAU * chance.share();
-        (LIMIT * turn.cos(), LIMIT * turn.sin())
+        (radius * turn.cos(), radius * turn.sin())
     })
 }
 

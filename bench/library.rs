@@ -160,7 +160,7 @@ mod both_chains {
 pub use both_chains::{chains, Room};
 
 #[cfg(has_library)]
-mod records {
+mod counted {
     use crate::inputs::Sheet;
 
     #[repr(C)]
@@ -171,6 +171,38 @@ mod records {
     }
 
     extern "C" {
+        fn nuoskelma_ring(
+            answer: *mut Counted,
+            east: *const i32,
+            east_len: usize,
+            north: *const i32,
+            north_len: usize,
+            out_east: *mut i32,
+            out_east_len: usize,
+            out_north: *mut i32,
+            out_north_len: usize,
+            scratch: *mut u32,
+            scratch_len: usize,
+        ) -> *mut Counted;
+
+        fn nuoskelma_sum(
+            answer: *mut Counted,
+            east: *const i32,
+            east_len: usize,
+            north: *const i32,
+            north_len: usize,
+            east2: *const i32,
+            east2_len: usize,
+            north2: *const i32,
+            north2_len: usize,
+            out_east: *mut i32,
+            out_east_len: usize,
+            out_north: *mut i32,
+            out_north_len: usize,
+            scratch: *mut u32,
+            scratch_len: usize,
+        ) -> *mut Counted;
+
         fn nuoskelma_write_record(
             answer: *mut Counted,
             east: *const i32,
@@ -182,19 +214,75 @@ mod records {
         ) -> *mut Counted;
     }
 
+    impl Counted {
+        const NONE: Counted = Counted { number: 0, place: 0, count: 0 };
+
+        fn told(self) -> Result<usize, u32> {
+            if self.number == 0 {
+                Ok(self.count)
+            } else {
+                Err(self.number)
+            }
+        }
+    }
+
+    /// How many corners of the ring of samples stand at the front of the output, or the refusal's number.
+    pub fn ring(sheet: &Sheet, out: &mut Sheet, scratch: &mut [u32]) -> Result<usize, u32> {
+        let mut answer = Counted::NONE;
+        // as for pick
+        unsafe {
+            nuoskelma_ring(
+                &mut answer,
+                sheet.east.as_ptr(),
+                sheet.east.len(),
+                sheet.north.as_ptr(),
+                sheet.north.len(),
+                out.east.as_mut_ptr(),
+                out.east.len(),
+                out.north.as_mut_ptr(),
+                out.north.len(),
+                scratch.as_mut_ptr(),
+                scratch.len(),
+            )
+        };
+        answer.told()
+    }
+
+    /// How many corners of the sum of two rings stand at the front of the output, or the refusal's number.
+    pub fn sum(first: &Sheet, second: &Sheet, out: &mut Sheet, scratch: &mut [u32]) -> Result<usize, u32> {
+        let mut answer = Counted::NONE;
+        // as for pick
+        unsafe {
+            nuoskelma_sum(
+                &mut answer,
+                first.east.as_ptr(),
+                first.east.len(),
+                first.north.as_ptr(),
+                first.north.len(),
+                second.east.as_ptr(),
+                second.east.len(),
+                second.north.as_ptr(),
+                second.north.len(),
+                out.east.as_mut_ptr(),
+                out.east.len(),
+                out.north.as_mut_ptr(),
+                out.north.len(),
+                scratch.as_mut_ptr(),
+                scratch.len(),
+            )
+        };
+        answer.told()
+    }
+
     /// How many bytes of a ring's record stand at the front of the output, or the refusal's number.
     pub fn write_record(ring: &Sheet, out: &mut [u8]) -> Result<usize, u32> {
-        let mut answer = Counted { number: 0, place: 0, count: 0 };
+        let mut answer = Counted::NONE;
         let (east, north) = (&ring.east, &ring.north);
         // as for pick
         unsafe { nuoskelma_write_record(&mut answer, east.as_ptr(), east.len(), north.as_ptr(), north.len(), out.as_mut_ptr(), out.len()) };
-        if answer.number == 0 {
-            Ok(answer.count)
-        } else {
-            Err(answer.number)
-        }
+        answer.told()
     }
 }
 
 #[cfg(has_library)]
-pub use records::write_record;
+pub use counted::{ring, sum, write_record};

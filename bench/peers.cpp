@@ -1,14 +1,18 @@
-// Peers of the chains from other libraries, each found by bench/run and named by a WITH_ macro, behind one C face for bench/peers.rs.
+// Peers of the chains and of the sum from other libraries, each found by bench/run and named by a WITH_ macro, behind one C face for bench/peers.rs.
 //
-// A peer makes its own kind of list from the samples once, which is not timed, and answers the corners of the outline as pairs of east and north, in any order.
+// A peer makes its own kind of list from the samples once, or of the two rings, which is not timed, and answers the corners of the outline as pairs of east and
+// north, in any order.
 #include <cstddef>
 #include <cstdint>
+#include <utility>
 #include <vector>
 
 #ifdef WITH_CGAL
 #include <CGAL/Exact_predicates_inexact_constructions_kernel.h>
+#include <CGAL/Polygon_nop_decomposition_2.h>
 #include <CGAL/ch_bykat.h>
 #include <CGAL/ch_graham_andrew.h>
+#include <CGAL/minkowski_sum_2.h>
 #include <CGAL/version.h>
 #endif
 
@@ -32,10 +36,18 @@ extern "C" {
 
 namespace {
 
+// samples, or the corners of a ring
+struct Sheet {
+    const int32_t *east;
+    const int32_t *north;
+    size_t n;
+};
+
 struct Peer {
     const char *name;
-    void *(*make)(const int32_t *east, const int32_t *north, size_t n);
-    // out has room for n + 1 corners, two numbers each; the answer is their count
+    // of one sheet, or of two for a sum
+    void *(*make)(const Sheet *sheets);
+    // out has room for one corner more than all sheets have samples, two numbers each; the answer is their count
     size_t (*corners)(void *samples, double *out);
     void (*drop)(void *samples);
 };
@@ -46,13 +58,13 @@ template <class List> void drop(void *samples) { delete static_cast<List *>(samp
 using Kernel = CGAL::Exact_predicates_inexact_constructions_kernel;
 using CgalList = std::vector<Kernel::Point_2>;
 
-void *cgal_make(const int32_t *east, const int32_t *north, size_t n) {
+void *cgal_make(const Sheet *sheet) {
     auto *list = new CgalList;
-    for (size_t i = 0; i < n; i++) list->emplace_back(east[i], north[i]);
+    for (size_t i = 0; i < sheet->n; i++) list->emplace_back(sheet->east[i], sheet->north[i]);
     return list;
 }
 
-size_t cgal_corners(const CgalList &found, double *out) {
+template <class List> size_t cgal_corners(const List &found, double *out) {
     for (const auto &corner : found) {
         *out++ = corner.x();
         *out++ = corner.y();
@@ -73,6 +85,27 @@ size_t bykat(void *samples, double *out) {
     CGAL::ch_bykat(list.begin(), list.end(), std::back_inserter(found));
     return cgal_corners(found, out);
 }
+
+using CgalRing = CGAL::Polygon_2<Kernel>;
+using CgalRings = std::pair<CgalRing, CgalRing>;
+
+// CGAL goes round to the left, a ring to the right
+CgalRing cgal_ring(const Sheet &ring) {
+    CgalRing made;
+    for (size_t i = ring.n; i > 0; i--) made.push_back(Kernel::Point_2(ring.east[i - 1], ring.north[i - 1]));
+    return made;
+}
+
+void *cgal_make_rings(const Sheet *rings) { return new CgalRings(cgal_ring(rings[0]), cgal_ring(rings[1])); }
+
+// As the rings are convex, they are not cut into convex parts first. CGAL asks for exact constructions in general; of whole numbers of this size sums are exact
+// as they are, and nothing else is constructed.
+size_t minkowski(void *rings, double *out) {
+    const auto &[first, second] = *static_cast<CgalRings *>(rings);
+    const CGAL::Polygon_nop_decomposition_2<Kernel> as_they_are;
+    const auto sum = CGAL::minkowski_sum_2(first, second, as_they_are);
+    return cgal_corners(sum.outer_boundary(), out);
+}
 #endif
 
 #ifdef WITH_BOOST
@@ -80,9 +113,9 @@ namespace bg = boost::geometry;
 using BoostPosition = bg::model::d2::point_xy<double>;
 using BoostList = bg::model::multi_point<BoostPosition>;
 
-void *boost_make(const int32_t *east, const int32_t *north, size_t n) {
+void *boost_make(const Sheet *sheet) {
     auto *list = new BoostList;
-    for (size_t i = 0; i < n; i++) list->push_back(BoostPosition(east[i], north[i]));
+    for (size_t i = 0; i < sheet->n; i++) list->push_back(BoostPosition(sheet->east[i], sheet->north[i]));
     return list;
 }
 
@@ -106,11 +139,11 @@ struct GeosList {
     GEOSGeometry *list;
 };
 
-void *geos_make(const int32_t *east, const int32_t *north, size_t n) {
+void *geos_make(const Sheet *sheet) {
     GEOSContextHandle_t context = GEOS_init_r();
-    std::vector<GEOSGeometry *> each(n);
-    for (size_t i = 0; i < n; i++) each[i] = GEOSGeom_createPointFromXY_r(context, east[i], north[i]);
-    GEOSGeometry *list = GEOSGeom_createCollection_r(context, GEOS_MULTIPOINT, each.data(), static_cast<unsigned>(n));
+    std::vector<GEOSGeometry *> each(sheet->n);
+    for (size_t i = 0; i < sheet->n; i++) each[i] = GEOSGeom_createPointFromXY_r(context, sheet->east[i], sheet->north[i]);
+    GEOSGeometry *list = GEOSGeom_createCollection_r(context, GEOS_MULTIPOINT, each.data(), static_cast<unsigned>(sheet->n));
     return new GeosList{context, list};
 }
 
@@ -141,11 +174,11 @@ void geos_drop(void *samples) {
 #ifdef WITH_QHULL
 using QhullList = std::vector<coordT>;
 
-void *qhull_make(const int32_t *east, const int32_t *north, size_t n) {
+void *qhull_make(const Sheet *sheet) {
     auto *list = new QhullList;
-    for (size_t i = 0; i < n; i++) {
-        list->push_back(east[i]);
-        list->push_back(north[i]);
+    for (size_t i = 0; i < sheet->n; i++) {
+        list->push_back(sheet->east[i]);
+        list->push_back(sheet->north[i]);
     }
     return list;
 }
@@ -188,9 +221,22 @@ const std::vector<Peer> peers = {
 #endif
 };
 
+// GEOS and Qhull have no sum. Boost.Polygon has one of any two outlines among its details: it unites a figure for each two sides, which takes milliseconds for 16
+// corners and seconds for 256, and rounds where they cross.
+const std::vector<Peer> sum_peers = {
+#ifdef WITH_CGAL
+    {"CGAL " CGAL_VERSION_STR " minkowski_sum_2", cgal_make_rings, minkowski, drop<CgalRings>},
+#endif
+};
+
 } // namespace
 
 extern "C" const Peer *bench_peers(size_t *count) {
     *count = peers.size();
     return peers.data();
+}
+
+extern "C" const Peer *bench_sum_peers(size_t *count) {
+    *count = sum_peers.size();
+    return sum_peers.data();
 }

@@ -1,45 +1,78 @@
-//! Peers of the chains from other libraries: those of bench/peers.cpp, or none where it is not linked.
+//! Peers of the chains and of the sum from other libraries: those of bench/peers.cpp, or none where it is not linked.
 
 use crate::inputs::Sheet;
 use std::ffi::{c_char, c_void, CStr};
 
 /// As bench/peers.cpp has it.
 #[repr(C)]
+struct Lists {
+    east: *const i32,
+    north: *const i32,
+    n: usize,
+}
+
+/// As bench/peers.cpp has it.
+#[repr(C)]
 #[derive(Clone, Copy)]
 pub struct Peer {
     name: *const c_char,
-    make: extern "C" fn(*const i32, *const i32, usize) -> *mut c_void,
+    make: extern "C" fn(*const Lists) -> *mut c_void,
     corners: extern "C" fn(*mut c_void, *mut f64) -> usize,
     drop: extern "C" fn(*mut c_void),
 }
 
 #[cfg(has_peers)]
-pub fn peers() -> Vec<Peer> {
+mod linked {
+    use super::Peer;
+
     extern "C" {
         fn bench_peers(count: *mut usize) -> *const Peer;
+        fn bench_sum_peers(count: *mut usize) -> *const Peer;
     }
-    let mut count = 0;
-    // the list is never changed or dropped
-    unsafe { std::slice::from_raw_parts(bench_peers(&mut count), count) }.to_vec()
+
+    fn listed(list: unsafe extern "C" fn(*mut usize) -> *const Peer) -> Vec<Peer> {
+        let mut count = 0;
+        let first = unsafe { list(&mut count) };
+        // an empty list may have no address; the list is never changed or dropped
+        (0..count).map(|place| unsafe { *first.add(place) }).collect()
+    }
+
+    pub fn peers() -> Vec<Peer> {
+        listed(bench_peers)
+    }
+
+    pub fn sum_peers() -> Vec<Peer> {
+        listed(bench_sum_peers)
+    }
 }
 
 #[cfg(not(has_peers))]
-pub fn peers() -> Vec<Peer> {
-    Vec::new()
+mod linked {
+    pub fn peers() -> Vec<super::Peer> {
+        Vec::new()
+    }
+
+    pub fn sum_peers() -> Vec<super::Peer> {
+        Vec::new()
+    }
 }
+
+pub use linked::{peers, sum_peers};
 
 impl Peer {
     pub fn name(&self) -> String {
         unsafe { CStr::from_ptr(self.name) }.to_string_lossy().into_owned()
     }
 
-    pub fn take(&self, sheet: &Sheet) -> Taken {
-        let samples = (self.make)(sheet.east.as_ptr(), sheet.north.as_ptr(), sheet.len());
-        Taken { peer: *self, samples, out: vec![0.0; 2 * (sheet.len() + 1)] }
+    /// Of one sheet, or of two rings for a sum.
+    pub fn take(&self, sheets: &[&Sheet]) -> Taken {
+        let lists: Vec<Lists> = sheets.iter().map(|sheet| Lists { east: sheet.east.as_ptr(), north: sheet.north.as_ptr(), n: sheet.len() }).collect();
+        let all: usize = lists.iter().map(|list| list.n).sum();
+        Taken { peer: *self, samples: (self.make)(lists.as_ptr()), out: vec![0.0; 2 * (all + 1)] }
     }
 }
 
-/// A sheet in a peer's own kind of list, and room for its corners.
+/// Sheets in a peer's own kind of list, and room for its corners.
 pub struct Taken {
     peer: Peer,
     samples: *mut c_void,

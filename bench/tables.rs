@@ -7,6 +7,8 @@ pub mod chains;
 #[cfg(has_library)]
 pub mod pick;
 #[cfg(has_library)]
+pub mod sums;
+#[cfg(has_library)]
 pub mod write;
 
 /// A table's name and what prints it.
@@ -22,4 +24,6 @@ pub const TABLES: &[Printed] = &[
     ("chains", chains::print),
     #[cfg(has_library)]
     ("write", write::print),
+    #[cfg(has_library)]
+    ("sums", sums::print),
 ];

@@ -3,8 +3,8 @@
 use crate::andrew;
 use crate::inputs::Sheet;
 
-const MOST: usize = 65_536;
-const LIMIT: i32 = 1_000_000;
+pub const MOST: usize = 65_536;
+pub const LIMIT: i32 = 1_000_000;
 const HEAD: usize = 5;
 const CORNER: usize = 8;
 
@@ -36,8 +36,8 @@ pub fn bytes(ring: &Sheet, out: &mut [u8]) {
     }
 }
 
-/// How many bytes were written, or the refusal's number.
-pub fn write(ring: &Sheet, out: &mut [u8]) -> Result<usize, u32> {
+/// The number with which a list is refused that is no ring.
+pub fn tested(ring: &Sheet) -> Result<(), u32> {
     let within = |part: &i32| (-LIMIT..=LIMIT).contains(part);
     if ring.east.len() != ring.north.len() {
         return Err(1);
@@ -51,6 +51,12 @@ pub fn write(ring: &Sheet, out: &mut [u8]) -> Result<usize, u32> {
     if !is_envelope(ring) {
         return Err(9);
     }
+    Ok(())
+}
+
+/// How many bytes were written, or the refusal's number.
+pub fn write(ring: &Sheet, out: &mut [u8]) -> Result<usize, u32> {
+    tested(ring)?;
     if out.len() < size(ring.len()) {
         return Err(5);
     }

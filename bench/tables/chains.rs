@@ -40,7 +40,7 @@ fn cells(sheets: &[Sheet], peers: &[Peer]) -> Vec<String> {
     let mut room = Room::new(n);
     room.scratch.fill(7);
     let outlines: Vec<Vec<(i32, i32)>> = sheets.iter().map(|sheet| corners(sheet, &compared(sheet, &mut room))).collect();
-    let mut taken: Vec<Vec<Taken>> = peers.iter().map(|peer| sheets.iter().map(|sheet| peer.take(sheet)).collect()).collect();
+    let mut taken: Vec<Vec<Taken>> = peers.iter().map(|peer| sheets.iter().map(|sheet| peer.take(&[sheet])).collect()).collect();
     let differs = |taken: &mut Vec<Taken>| taken.iter_mut().zip(&outlines).any(|(one, outline)| one.corners() != *outline);
     let marks: Vec<&str> = taken.iter_mut().map(|taken| if differs(taken) { "*" } else { "" }).collect();
 
