@@ -4,7 +4,7 @@
 use mathlib.Core.Bool.{Bool, true, false, not, _&&_, _||_}
 use mathlib.Core.Option.{Option, none, some}
 use mathlib.Core.List.{List, [], _∷_, _++_, map}
-use Prim.Native.Nat.{ℕ, _+_, _-_, _%_}
+use Prim.Native.Nat.{ℕ, _+_, _%_}
 use lib.IntN.{ℤ, pos}
 use lib.Dec.{leb, ltb, eqb}
 use lib.Ieee.{Float}
@@ -19,7 +19,7 @@ use Rattle.rules.specs.Bridge.{Bridge, ends, bridge, spans, reported}
 use Rattle.rules.specs.Round.{Said, found, kept, round}
 use Rattle.rules.specs.Use.{envelope, HandAt, hand-for, next-place, moved-on, strongest, strongest-place, covers, join, sum, turn-about}
 use Rattle.rules.specs.Door.{Readings, taken, bad, bad-float, readings}
-use Rattle.rules.specs.Record.{known-version, head-size, corner-size, version, said-length, record-corners, record-of}
+use Rattle.rules.specs.Record.{known-version, head-size, corner-size, version, said-length, said-end, record-corners, record-of}
 use Rattle.rules.specs.Refusals.{Answer, refused, done, Test, test, unless, lengths-differ, too-many, part-beyond, single-beyond, scratch-short, output-short, ring-tests, not-envelope}
 
 abbrev pub is-none : {A : Type 0} → Option A → Bool
@@ -237,19 +237,30 @@ door-output-after parts (door-done n) old = written parts old
 door-output-after parts (door-refused k i) old = old
 door-output-after parts (door-refused-float k i f) old = old
 
--- ---- record reader: 17 if empty, 16, 17, 2, 3, 9, 5
+-- ---- record reader: 17 if empty, 16, 17 for under 5 bytes, 21, 17 or 20, 2, 3, 9, 5
+
+-- "the bytes end early", before so many are there. The place is "the offset of the first missing byte", which is the number of bytes given
+abbrev pub ends-early : List ℕ → ℕ → Test
+ends-early bs end = test 17 (length bs) (ltb (length bs) end)
+
+-- the bytes around the corners. "The length is not a multiple of 8": the place is 1, where the length stands. "Bytes follow the end": the place is "the offset
+-- .. of the first extra byte"
+abbrev pub frame-tests : List ℕ → List Test
+frame-tests bs =
+    ends-early bs 1
+    ∷ test 16 0 (not (eqb (version bs) known-version))
+    ∷ ends-early bs head-size
+    ∷ test 21 1 (not (eqb (said-length bs % corner-size) 0))
+    ∷ ends-early bs (said-end bs)
+    ∷ test 20 (said-end bs) (ltb (said-end bs) (length bs))
+    ∷ []
+
+-- the corners
+abbrev pub corner-tests : List Stream → List ℤ → List ℤ → List Test
+corner-tests r east north = too-many (length r) ∷ part-beyond r ∷ test 9 0 (not (envelope r)) ∷ ring-short east north r ∷ []
 
 abbrev pub record-tests : List ℕ → List ℤ → List ℤ → List Test
-record-tests bs east north =
-    let r = record-corners bs in
-    test 17 0 (eqb (length bs) 0)
-    ∷ test 16 0 (not (eqb (version bs) known-version))
-    ∷ test 17 0 (ltb (length bs) head-size || not (eqb (said-length bs % corner-size) 0) || not (eqb (said-length bs) (length bs - head-size)))
-    ∷ too-many (length r)
-    ∷ part-beyond r
-    ∷ test 9 0 (not (envelope r))
-    ∷ ring-short east north r
-    ∷ []
+record-tests bs east north = frame-tests bs ++ corner-tests (record-corners bs) east north
 
 unfoldable pub record-answer : List ℕ → List ℤ → List ℤ → Answer (List Stream)
 record-answer bs east north = unless (record-tests bs east north) (record-corners bs)

@@ -1,6 +1,6 @@
 -- Record. "Big-endian. Byte 0 is the version, 1. Bytes 1 to 4 are the length in bytes of the rest. Then per corner 4 bytes east and 4 bytes north, two's
--- complement, ring order. Length 0 is the empty ring." Version and sizes are said once: by them a record is taken apart, and put together. When 16 and 17 are
--- given stands in Entries, `record-answer`.
+-- complement, ring order. Length 0 is the empty ring." Version and sizes are said once: by them a record is taken apart, and put together. When 16, 17,
+-- 20 and 21 are given stands in Entries, `frame-tests`.
 -- Assumes nothing.
 use mathlib.Core.Bool.{cond}
 use mathlib.Core.List.{List, [], _∷_, _++_}
@@ -44,6 +44,10 @@ version bs = getD bs 0 0
 -- the length in bytes of the rest, as the record says it
 abbrev pub said-length : List ℕ → ℕ
 said-length bs = word bs 1
+
+-- the offset of the first byte after the record, as it says
+abbrev pub said-end : List ℕ → ℕ
+said-end bs = head-size + said-length bs
 
 -- the first n corners from a place on
 unfoldable pub corners-at : ℕ → List ℕ → ℕ → List Stream

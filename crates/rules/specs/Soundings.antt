@@ -265,3 +265,40 @@ records = record {
   lengths-first = refl;
   read-again = refl;
 }
+
+-- a record into outputs of one corner
+abbrev pub read-one : List ℕ → Answer (List Stream)
+read-one bs = record-answer bs (pos 9 ∷ []) (pos 9 ∷ [])
+
+-- what is wrong with a record, and where: cut before its version, in its head, in its corners; bytes after a corner, after none; a length that is no multiple of
+-- 8 in a record that is cut, too long, or as long as it says; and the same at the greatest lengths
+pub record Frames : Type 0 where
+  pub empty : read-one [] ≡ refused 17 0
+  pub version-first : read-one (2 ∷ []) ≡ refused 16 0
+  pub head-cut : read-one (1 ∷ 0 ∷ 0 ∷ []) ≡ refused 17 3
+  pub no-corners : read-one (1 ∷ 0 ∷ 0 ∷ 0 ∷ 0 ∷ []) ≡ done []
+  pub corner-cut : read-one (1 ∷ 0 ∷ 0 ∷ 0 ∷ 8 ∷ 0 ∷ 0 ∷ 0 ∷ 7 ∷ 0 ∷ 0 ∷ 0 ∷ []) ≡ refused 17 12
+  pub after-corner : read-one (1 ∷ 0 ∷ 0 ∷ 0 ∷ 8 ∷ 0 ∷ 0 ∷ 0 ∷ 7 ∷ 0 ∷ 0 ∷ 0 ∷ 7 ∷ 0 ∷ []) ≡ refused 20 13
+  pub after-none : read-one (1 ∷ 0 ∷ 0 ∷ 0 ∷ 0 ∷ 1 ∷ []) ≡ refused 20 5
+  pub odd-cut : read-one (1 ∷ 0 ∷ 0 ∷ 0 ∷ 7 ∷ 0 ∷ []) ≡ refused 21 1
+  pub odd-after : read-one (1 ∷ 0 ∷ 0 ∷ 0 ∷ 7 ∷ 0 ∷ 0 ∷ 0 ∷ 7 ∷ 0 ∷ 0 ∷ 0 ∷ 7 ∷ 0 ∷ []) ≡ refused 21 1
+  pub odd : read-one (1 ∷ 0 ∷ 0 ∷ 0 ∷ 7 ∷ 0 ∷ 0 ∷ 0 ∷ 7 ∷ 0 ∷ 0 ∷ 0 ∷ []) ≡ refused 21 1
+  pub greatest : read-one (1 ∷ 255 ∷ 255 ∷ 255 ∷ 248 ∷ 0 ∷ []) ≡ refused 17 6
+  pub greatest-odd : read-one (1 ∷ 255 ∷ 255 ∷ 255 ∷ 255 ∷ 0 ∷ []) ≡ refused 21 1
+
+pub frames : Frames
+unfolding some-of alike corners upper lower closed ring envelope word corners-at record-corners record-answer
+frames = record {
+  empty = refl;
+  version-first = refl;
+  head-cut = refl;
+  no-corners = refl;
+  corner-cut = refl;
+  after-corner = refl;
+  after-none = refl;
+  odd-cut = refl;
+  odd-after = refl;
+  odd = refl;
+  greatest = refl;
+  greatest-odd = refl;
+}
