@@ -2,7 +2,7 @@
 -- Assumes nothing.
 use mathlib.Core.Path.{_≡_, refl, ap, _∙_}
 use mathlib.Core.Bool.{Bool, true, false, cond}
-use mathlib.Core.List.{List, [], _∷_}
+use mathlib.Core.List.{List, [], _∷_, _++_}
 use Prim.Native.Nat.{ℕ}
 use native.Mathlib.Omega.{arith}
 use Rattle.rules.specs.Refusals.{refused, done, Test, unless}
@@ -11,6 +11,15 @@ use Rattle.rules.specs.Refusals.{refused, done, Test, unless}
 abbrev pub None-hold : List Test → Type 0
 None-hold [] = Unit {0}
 None-hold (t ∷ ts) = (t .holds ≡ false) × None-hold ts
+
+-- of tests after others none holds exactly where none of either does
+pub none-after : (ts us : List Test) → None-hold ts → None-hold us → None-hold (ts ++ us)
+none-after [] us n m = m
+none-after (t ∷ ts) us (h, n) m = (h, none-after ts us n m)
+
+pub none-either : (ts us : List Test) → None-hold (ts ++ us) → None-hold ts × None-hold us
+none-either [] us n = (tt, n)
+none-either (t ∷ ts) us (h, n) = let r = none-either ts us n in ((h, r .0), r .1)
 
 module _ {A : Type 0} where
   pub when-done : (ts : List Test) (x : A) {y : A} → unless ts x ≡ done y → None-hold ts × (x ≡ y)
