@@ -16,7 +16,8 @@ use Rattle.rules.specs.Streams.{Stream, most, beyond}
 use Rattle.rules.specs.Use.{envelope}
 use Rattle.rules.specs.Record.{record-corners}
 use Rattle.rules.specs.Refusals.{done}
-use Rattle.rules.specs.Entries.{record-tests, record-answer}
+use Rattle.rules.specs.Entries.{frame-tests, corner-tests, record-tests, record-answer}
+use Rattle.laws_refusals.specs.NoneHold.{none-either}
 use Rattle.samples.specs.CountedAnswers.{counted-as}
 use Rattle.samples.specs.declared.answers.Counted.{Counted}
 use Rattle.samples.specs.declared.answers.Counted.the-variants as counts
@@ -67,7 +68,7 @@ reading-done c {n} e =
     (sym (ap counted-as e) ∙ c .promised .0)
     (c .promised .1 .0)
     (c .promised .1 .1) in
-    let tests = d .0 .1 .1 .1 in
+    let tests = none-either (frame-tests (bytes c)) (corner-tests (corners c) (east-before c) (north-before c)) (d .0) .1 in
     record {
       answered = not-refused ts (corners c) (d .0);
       few = ltb-false most (length (corners c)) (tests .0);

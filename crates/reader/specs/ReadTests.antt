@@ -1,42 +1,23 @@
 -- The outcome of reading a record, test by test in the rules' order.
 -- Assumes nothing.
 use mathlib.Core.Path.{_≡_, refl, sym, ap, _∙_}
-use mathlib.Core.Bool.{Bool, true, false, cond, not, _||_, true≢false}
+use mathlib.Core.Bool.{true, false, not, _||_}
 use mathlib.Core.List.{List, [], _∷_}
 use Prim.Native.Nat.{ℕ, _≤_, _<_}
 use native.Mathlib.Omega.{arith}
 use borrow.Author.Tests.{lt-ltb, le-ltb, ltb-false}
-use lib.Dec.{ltb, eqb}
+use lib.Dec.{ltb}
 use lib.IntN.{ℤ}
 use lib.ListN.{length}
 use Rattle.rules.specs.Lists.{some-of, first-place}
 use Rattle.rules.specs.Streams.{Stream, most, beyond}
 use Rattle.rules.specs.Use.{envelope}
-use Rattle.rules.specs.Record.{known-version, head-size, version, record-corners}
-use Rattle.rules.specs.Refusals.{Answer, refused, done, Test, test, unless, too-many, part-beyond}
-use Rattle.rules.specs.Entries.{record-answer, ring-short}
+use Rattle.rules.specs.Record.{head-size, record-corners}
+use Rattle.rules.specs.Refusals.{refused, done, Test, test, unless, too-many, part-beyond}
+use Rattle.rules.specs.Entries.{frame-tests, corner-tests, record-answer, ring-short}
 use Rattle.samples.specs.Scans.{some-by-place}
-use Rattle.samples.specs.Tests.{refuses, passes}
-use Rattle.reader.specs.RecordAnswers.{frame-number, misframed}
-
--- ---- three tests, and the number of the one that holds
-
-module _ {A : Type 0} where
-  one-holds : (empty other short : Bool) (k : ℕ) (rest : Answer A) →
-      k ≡ cond empty 17 (cond other 16 (cond short 17 0)) → (k ≡ 0 → ⊥) →
-      cond empty (refused 17 0) (cond other (refused 16 0) (cond short (refused 17 0) rest)) ≡ refused k 0
-  one-holds true other short k rest e h = rw e
-  one-holds false true short k rest e h = rw e
-  one-holds false false true k rest e h = rw e
-  one-holds false false false k rest e h = absurd (h e)
-
-  none-holds : (empty other short : Bool) (rest : Answer A) →
-      _≡_ {A = ℕ} 0 (cond empty 17 (cond other 16 (cond short 17 0))) →
-      (cond empty (refused 17 0) (cond other (refused 16 0) (cond short (refused 17 0) rest)) ≡ rest) × (short ≡ false)
-  none-holds true other short rest e = absurd (omega arith)
-  none-holds false true short rest e = absurd (omega arith)
-  none-holds false false true rest e = absurd (omega arith)
-  none-holds false false false rest e = (refl, refl)
+use Rattle.samples.specs.Tests.{tested-of, passed-tests, answer-by, refuses, passes}
+use Rattle.samples.specs.declared.tests.Tested.the-variants.{Passed, Refused}
 
 -- ---- the record's tests
 
@@ -44,23 +25,18 @@ module _ (bs : List ℕ) (es ns : List ℤ) where
   corners : List Stream
   corners = record-corners bs
 
-  -- what is tested once the bytes around the corners are good
+  -- what is tested after the parts
   last-tests : List Test
   last-tests = test 9 0 (not (envelope corners)) ∷ ring-short es ns corners ∷ []
 
-  pub refused-frame : (k : ℕ) → k ≡ frame-number bs → (k ≡ 0 → ⊥) → record-answer bs es ns ≡ refused k 0
-  unfolding record-answer frame-number corners last-tests
-  refused-frame k e h =
-      one-holds (eqb (length bs) 0) (not (eqb (version bs) known-version)) (misframed bs) k
-      (unless (too-many (length corners) ∷ part-beyond corners ∷ last-tests) corners) e h
+  pub refused-frame : {k p : ℕ} → tested-of (frame-tests bs) ≡ Refused k p → record-answer bs es ns ≡ refused k p
+  unfolding record-answer
+  refused-frame e = answer-by (frame-tests bs) (corner-tests (record-corners bs) es ns) (record-corners bs) e
 
-  module _ (framed : 0 ≡ frame-number bs) where
+  module _ (framed : tested-of (frame-tests bs) ≡ Passed) where
     good-frame : record-answer bs es ns ≡ unless (too-many (length corners) ∷ part-beyond corners ∷ last-tests) corners
-    unfolding record-answer frame-number corners last-tests
-    good-frame =
-        none-holds (eqb (length bs) 0) (not (eqb (version bs) known-version)) (misframed bs)
-        (unless (too-many (length corners) ∷ part-beyond corners ∷ last-tests) corners)
-        framed .0
+    unfolding record-answer corners last-tests
+    good-frame = answer-by (frame-tests bs) (corner-tests (record-corners bs) es ns) (record-corners bs) framed
 
     pub refused-2 : most < length (record-corners bs) → record-answer bs es ns ≡ refused 2 0
     unfolding corners last-tests
@@ -105,14 +81,8 @@ module _ (bs : List ℕ) (es ns : List ℤ) where
 
 -- ---- what a good frame says
 
-pub long-enough : (bs : List ℕ) → 0 ≡ frame-number bs → head-size ≤ length bs
-unfolding frame-number
-long-enough bs e =
-    go (ltb (length bs) head-size) refl (none-holds (eqb (length bs) 0) (not (eqb (version bs) known-version)) (misframed bs) (done bs) e .1)
-  where
-    go : (t : Bool) → ltb (length bs) head-size ≡ t → misframed bs ≡ false → head-size ≤ length bs
-    go true q h = absurd (true≢false (rw q at h))
-    go false q h = ltb-false (length bs) head-size q
+pub long-enough : (bs : List ℕ) → tested-of (frame-tests bs) ≡ Passed → head-size ≤ length bs
+long-enough bs e = ltb-false (length bs) head-size (passed-tests (frame-tests bs) e .1 .1 .0)
 
 -- a first place that is the count is none
 pub none-beyond : (xs : List Stream) (place : ℕ) → place ≡ first-place beyond xs → length xs ≤ place → some-of beyond xs ≡ false

@@ -8,11 +8,12 @@ ghost use Rattle.rules.specs.Streams.{sample, beyond};
 ghost use Rattle.rules.specs.Use.{envelope};
 ghost use Rattle.rules.specs.Record.{word, twos, record-corners};
 ghost use Rattle.rules.specs.Refusals.{output-after};
-ghost use Rattle.rules.specs.Entries.{record-answer, easts, norths, counted};
+ghost use Rattle.rules.specs.Entries.{frame-tests, record-answer, easts, norths, counted};
 ghost use Rattle.samples.specs.HeldStream.{stream-of};
 ghost use Rattle.envelope.specs.RoundTheRing.{round-from};
 ghost use Rattle.samples.specs.CountedAnswers.{counted-as};
-ghost use Rattle.reader.specs.RecordAnswers.{frame-number, Passed, Room};
+ghost use Rattle.samples.specs.Tests.{tested-of};
+ghost use Rattle.reader.specs.RecordAnswers.{Passed, Room};
 use envelope::test::closes;
 use envelope::test::turns;
 use samples::answers::Counted;
@@ -20,6 +21,7 @@ use samples::streams::Stream;
 use samples::streams::beyond;
 use samples::streams::leftmost;
 use samples::tests::MOST;
+use samples::tests::Tested;
 use samples::tests::too_short;
 
 // The corners of a record at the front of the two outputs. A refusal alters neither.
@@ -28,9 +30,11 @@ pub fn read_record(bytes: &[u8], east: &mut [i32], north: &mut [i32]) -> Counted
     ensures east { λ _. ⌜ now (east .exit) ≡ output-after easts (record-answer (now (bytes .entry)) (now (east .entry)) (now (north .entry))) (now (east .entry)) ⌝ }
     ensures north { λ _. ⌜ now (north .exit) ≡ output-after norths (record-answer (now (bytes .entry)) (now (east .entry)) (now (north .entry))) (now (north .entry)) ⌝ }
 {
-    let number = frame(bytes);
-    if number != 0 {
-        return Counted::Refused { number, place: 0 };
+    match frame(bytes) {
+        Tested::Passed => {}
+        Tested::Refused { number, place } => {
+            return Counted::Refused { number, place };
+        }
     }
     let n = (bytes.len() - 5) / 8;
     if MOST < n {
@@ -59,27 +63,49 @@ pub fn read_record(bytes: &[u8], east: &mut [i32], north: &mut [i32]) -> Counted
     Counted::Count(n)
 }
 
-// The refusal of the bytes around the corners, 17 if empty, 16, 17; 0 if there is none.
-fn frame(bytes: &[u8]) -> u32
-    ensures { λ r. ⌜ r ≡ frame-number (now (bytes .entry)) ⌝ }
+// The tests of the bytes around the corners: 17 if empty, 16, 17 for under 5 bytes, 21, 17 or 20.
+fn frame(bytes: &[u8]) -> Tested
+    ensures { λ r. ⌜ r ≡ tested-of (frame-tests (now (bytes .entry))) ⌝ }
 {
     if bytes.len() == 0 {
-        return 17;
+        return Tested::Refused {
+            number: 17,
+            place: 0,
+        };
     }
     if bytes[0] != 1 {
-        return 16;
+        return Tested::Refused {
+            number: 16,
+            place: 0,
+        };
     }
     if bytes.len() < 5 {
-        return 17;
+        return Tested::Refused {
+            number: 17,
+            place: bytes.len(),
+        };
     }
-    let said = word(bytes, 1);
+    let rest = bytes.len() - 5;
+    let said = word(bytes, 1) as usize;
     if said % 8 != 0 {
-        return 17;
+        return Tested::Refused {
+            number: 21,
+            place: 1,
+        };
     }
-    if said as usize != bytes.len() - 5 {
-        return 17;
+    if rest < said {
+        return Tested::Refused {
+            number: 17,
+            place: 5 + rest,
+        };
     }
-    0
+    if said < rest {
+        return Tested::Refused {
+            number: 20,
+            place: 5 + said,
+        };
+    }
+    Tested::Passed
 }
 
 // The first place of a corner with a part beyond the limit; n where there is none.
