@@ -55,9 +55,11 @@ enum nuoskelma_refusal {
     NUOSKELMA_REFUSED_FRACTION = 14,            /* a float with a fraction */
     NUOSKELMA_REFUSED_BAD_TEXT = 15,            /* bad text: the program alone gives it */
     NUOSKELMA_REFUSED_VERSION = 16,             /* a record whose version is not 1 */
-    NUOSKELMA_REFUSED_RECORD = 17,              /* a record of under 5 bytes, or with a length that is not right */
+    NUOSKELMA_REFUSED_RECORD_CUT = 17,          /* a record's bytes end early, at the first missing one */
     NUOSKELMA_REFUSED_STEP_WITHOUT_BRIDGE = 18, /* a chain step's list has no bridge: this never happens */
-    NUOSKELMA_REFUSED_SUM_BEYOND = 19           /* a corner of a sum beyond the limit: a part beyond 1,000,000 */
+    NUOSKELMA_REFUSED_SUM_BEYOND = 19,          /* a corner of a sum beyond the limit: a part beyond 1,000,000 */
+    NUOSKELMA_REFUSED_BYTES_FOLLOW = 20,        /* bytes follow a record's end, from the first extra one on */
+    NUOSKELMA_REFUSED_RECORD_LENGTH = 21        /* a record's length is not a multiple of 8 */
 };
 
 /* ---- Rank picker. */
@@ -272,8 +274,9 @@ nuoskelma_readings_taken nuoskelma_readings(const double *east, size_t east_len,
 
 /*
  * The corners of a record at the front of two output lists, and their count. What lies beyond them in the lists stays. Length 0 is the empty ring.
- * Refused: 17, no bytes; 16, a version that is not 1; 17, under 5 bytes, or a length that is no multiple of 8 or not that of the bytes that follow; 2, over
- * 65,536 corners; 3, a part beyond 1,000,000, at the first corner that has one; 9, not an envelope; 5, an output list is shorter than the corners. A refusal
+ * Refused: 17, no bytes; 16, a version that is not 1; 17, under 5 bytes; 21, a length that is not a multiple of 8; 17, the bytes end early; 20, bytes follow the
+ * end; 2, over 65,536 corners; 3, a part beyond 1,000,000, at the first corner that has one; 9, not an envelope; 5, an output list is shorter than the corners.
+ * The place of 17 is the offset of the first missing byte, that of 20 the offset of the first extra byte, that of 21 is 1, the offset of the length. A refusal
  * alters nothing.
  */
 nuoskelma_counted nuoskelma_record(const uint8_t *bytes, size_t bytes_len, int32_t *out_east, size_t out_east_len, int32_t *out_north,

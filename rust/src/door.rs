@@ -44,8 +44,9 @@ pub fn readings(east: &[f64], north: &[f64], out_east: &mut [i32], out_north: &m
 /// ring.
 ///
 /// # Errors
-/// 17, no bytes; 16, version not 1; 17, under 5 bytes, or length not a multiple of 8, or not the bytes that follow; 2, over 65,536 corners; 3, a part beyond
-/// the limit, at the first corner that has one; 9, not an envelope; 5, an output list is shorter than the corners.
+/// 17, no bytes; 16, version not 1; 17, under 5 bytes; 21, length not a multiple of 8, at place 1; 17, the bytes end early, or 20, bytes follow the end; 2, over
+/// 65,536 corners; 3, a part beyond the limit, at the first corner that has one; 9, not an envelope; 5, an output list is shorter than the corners. The place of
+/// 17 is the offset of the first missing byte, that of 20 the offset of the first extra byte.
 ///
 /// ```
 /// use nuoskelma::read_record;

@@ -72,15 +72,16 @@ impl Envelope {
     /// The envelope of a record: see [`read_record`](crate::read_record).
     ///
     /// # Errors
-    /// 17, no bytes; 16, version not 1; 17, under 5 bytes, or length not a multiple of 8, or not the bytes that follow; 2, over 65,536 corners; 3, a part
-    /// beyond the limit, at the first corner that has one; 9, not an envelope.
+    /// 17, no bytes; 16, version not 1; 17, under 5 bytes; 21, length not a multiple of 8, at place 1; 17, the bytes end early, at the first missing byte, or 20,
+    /// bytes follow the end, at the first extra byte; 2, over 65,536 corners; 3, a part beyond the limit, at the first corner that has one; 9, not an envelope.
     ///
     /// ```
     /// use nuoskelma::Envelope;
     ///
     /// let envelope = Envelope::read(&[1, 0, 0, 0, 8, 0, 0, 0, 2, 255, 255, 255, 255])?;
     /// assert!(envelope.corners().eq([(2, -1)]));
-    /// assert_eq!(Envelope::read(&[2]).unwrap_err().number, 16);
+    /// let cut = Envelope::read(&[1, 0, 0, 0, 8, 0, 0]).unwrap_err();
+    /// assert_eq!(cut.to_string(), "refused 17 7: the record's bytes end early: those from this place on are missing");
     /// # Ok::<(), nuoskelma::Refusal>(())
     /// ```
     pub fn read(bytes: &[u8]) -> Result<Envelope, Refusal> {

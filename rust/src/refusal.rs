@@ -20,9 +20,11 @@ use std::fmt;
 /// | 11 | course (0, 0) | |
 /// | 12, 13, 14 | float door: not a number, beyond the limit, a fraction | reading |
 /// | 16 | version not 1 | |
-/// | 17 | under 5 bytes, or length not a multiple of 8, or not the bytes that follow | |
+/// | 17 | the bytes end early | offset of the first missing byte |
 /// | 18 | a chain step's list has no bridge over its a | |
 /// | 19 | a corner of the sum beyond the limit | |
+/// | 20 | bytes follow the end | offset of the first extra byte |
+/// | 21 | the length is not a multiple of 8 | 1, the offset of the length |
 ///
 /// A refusal alters nothing that was lent, except that 5 and 18 of a function with scratch leave all the scratch zero.
 ///
@@ -91,9 +93,11 @@ impl Refusal {
             13 => "a float beyond the limit",
             14 => "a fraction",
             16 => "version not 1",
-            17 => "under 5 bytes, or length not a multiple of 8, or not the bytes that follow",
+            17 => "the record's bytes end early: those from this place on are missing",
             18 => "a chain step's list has no bridge over its a",
             19 => "a corner of the sum beyond the limit: no ring has it, but the strongest sets of both rings can be added",
+            20 => "bytes follow the record's end: those from this place on are not its own",
+            21 => "the record's length is not a multiple of 8: it counts no whole corners",
             _ => "no number of the rules",
         }
     }

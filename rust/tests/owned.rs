@@ -361,7 +361,9 @@ fn rings_refused() {
 
     assert_eq!(Envelope::read(&[]), no(17, 0));
     assert_eq!(Envelope::read(&[2]), no(16, 0));
-    assert_eq!(Envelope::read(&[1, 0, 0, 0, 8, 0, 0, 0]), no(17, 0));
+    assert_eq!(Envelope::read(&[1, 0, 0, 0, 8, 0, 0, 0]), no(17, 8));
+    assert_eq!(Envelope::read(&[1, 0, 0, 0, 0, 0, 0, 0]), no(20, 5));
+    assert_eq!(Envelope::read(&[1, 0, 0, 0, 3, 0, 0, 0]), no(21, 1));
     assert_eq!(Envelope::read(&record(Samples::from_iter([(LIMIT + 1, 0)]).iter())), no(3, 0));
     let many: Samples = (0..=MOST).map(|_| (0, 0)).collect();
     assert_eq!(Envelope::read(&record(many.iter())), no(2, 0));

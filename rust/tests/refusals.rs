@@ -210,15 +210,28 @@ fn no_12_13_14_the_float_door() {
 }
 
 #[test]
-fn no_16_and_17_bytes_that_are_no_record() {
+fn no_16_17_20_21_bytes_that_are_no_record() {
     let mut r = room();
     let mut read = |bytes: &[u8]| read_record(bytes, &mut r.first, &mut r.second);
     assert_eq!(read(&[]), no(17, 0));
     assert_eq!(read(&[2]), no(16, 0));
-    assert_eq!(read(&[1, 0, 0, 0]), no(17, 0));
-    assert_eq!(read(&[1, 0, 0, 0, 4, 0, 0, 0, 0]), no(17, 0));
-    assert_eq!(read(&[1, 0, 0, 0, 8, 0, 0, 0, 0]), no(17, 0));
-    assert_eq!(read(&[1, 8, 0, 0, 0, 0, 0, 0, 0, 0, 0, 0, 0]), no(17, 0));
+    assert_eq!(read(&[1, 0, 0]), no(17, 3));
+    assert_eq!(read(&[1, 0, 0, 0]), no(17, 4));
+    // the bytes end early, or bytes follow the end
+    let corner = [1, 0, 0, 0, 8, 0, 0, 0, 7, 0, 0, 0, 7, 0];
+    assert_eq!(read(&corner[..12]), no(17, 12));
+    assert_eq!(read(&corner[..13]), Ok(1));
+    assert_eq!(read(&corner), no(20, 13));
+    assert_eq!(read(&[1, 0, 0, 0, 0]), Ok(0));
+    assert_eq!(read(&[1, 0, 0, 0, 0, 1]), no(20, 5));
+    assert_eq!(read(&[1, 8, 0, 0, 0, 0, 0, 0, 0, 0, 0, 0, 0]), no(17, 13));
+    assert_eq!(read(&[1, 255, 255, 255, 248, 0]), no(17, 6));
+    // no multiple of 8, with bytes missing, as many as are said, and too many
+    for given in 5..=20 {
+        assert_eq!(read(&[&[1, 0, 0, 0, 7][..], &[0; 15]].concat()[..given]), no(21, 1));
+    }
+    assert_eq!(read(&[1, 255, 255, 255, 255, 0]), no(21, 1));
+    assert_eq!(read(&[3, 0, 0, 0, 7, 0]), no(16, 0));
 }
 
 #[test]
@@ -226,8 +239,14 @@ fn in_words() {
     let refusal = Hand::made_for(0).unwrap_err();
     assert_eq!(refusal.to_string(), "refused 10 0: an empty ring, or a hand whose place is not below its count");
     assert_eq!(part(0.5).unwrap_err().to_string(), "refused 14 0: a fraction: 0.5");
+    // each trouble of a record in other words, since it is mended in another way
+    let mut r = room();
+    let mut told = |bytes: &[u8]| read_record(bytes, &mut r.first, &mut r.second).unwrap_err().to_string();
+    assert_eq!(told(&[1, 0, 0, 0, 8, 0]), "refused 17 6: the record's bytes end early: those from this place on are missing");
+    assert_eq!(told(&[1, 0, 0, 0, 0, 10]), "refused 20 5: bytes follow the record's end: those from this place on are not its own");
+    assert_eq!(told(&[1, 0, 0, 0, 9, 0]), "refused 21 1: the record's length is not a multiple of 8: it counts no whole corners");
     assert_eq!(Refusal::from(part(f64::NAN).unwrap_err()), Refusal { number: 12, place: 0 });
-    for number in (1..=19).filter(|number| *number != 15) {
+    for number in (1..=21).filter(|number| *number != 15) {
         assert_ne!(Refusal { number, place: 0 }.words(), "no number of the rules");
     }
 }
