@@ -12,6 +12,7 @@ enum {
     OUTPUT_BEYOND,      /* ring: the word behind the result is altered */
     OUTPUT_REFUSED,     /* readings: the first word of an output is altered by a refusal */
     BEYOND_OUTPUT,      /* record: a word behind a list is altered */
+    LAST_BYTE,          /* record: the place of refusal 17 is that of the last byte that is there */
     BEHIND_RECORD,      /* write_record: the byte behind the record is altered */
     OTHER_END,          /* write_record: the last part's bytes are in the other order */
     PLACE,              /* cover: the place of refusal 3 is one too small */
@@ -209,6 +210,7 @@ static nuoskelma_counted faulty_record(const uint8_t *bytes, size_t bytes_len, i
     size_t out_north_len) {
     nuoskelma_counted r = nuoskelma_record(bytes, bytes_len, out_east, out_east_len, out_north, out_north_len);
     if (FAULT == BEYOND_OUTPUT && r.number == 0) out_north[out_north_len] = 0;
+    if (FAULT == LAST_BYTE && r.number == 17 && r.place > 0) r.place--;
     if (middle(bytes_len / 8) && r.number == 0) r.count++;
     return r;
 }

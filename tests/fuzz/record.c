@@ -1,6 +1,6 @@
-/* Bytes as a record, with the library held against itself: a refusal alters nothing; what is taken stands at the front of the outputs, the rest stays; whole
-   frames are taken or refused exactly as turning their corners about is, whose answer has as many corners; what is taken is written again as the same bytes;
-   outputs one short are refused with 5. */
+/* Bytes as a record, with the library held against itself: a refusal alters nothing; what is taken stands at the front of the outputs, the rest stays; what is
+   wrong with the bytes around the corners has its number and place; where nothing is, they are taken or refused exactly as turning their corners about is, whose
+   answer has as many corners; what is taken is written again as the same bytes; outputs one short are refused with 5. */
 
 #include <stdint.h>
 #include <stdlib.h>
@@ -26,6 +26,18 @@ static int32_t *room(size_t count) {
 
 static void stays(const int32_t *words, size_t from, size_t count) {
     for (size_t k = from; k < count; k++) hold(words[k] == INT32_MIN + (int32_t)k);
+}
+
+/* the refusal of the bytes around the corners; number 0 where there is none */
+static nuoskelma_counted frame(const uint8_t *bytes, size_t size) {
+    if (size == 0) return (nuoskelma_counted){17, 0, 0};
+    if (bytes[0] != 1) return (nuoskelma_counted){16, 0, 0};
+    if (size < HEAD) return (nuoskelma_counted){17, size, 0};
+    if (bytes[HEAD - 1] % CORNER != 0) return (nuoskelma_counted){21, 1, 0};
+    uint64_t end = HEAD + (uint64_t)(uint32_t)part(bytes + 1);
+    if (size < end) return (nuoskelma_counted){17, size, 0};
+    if (size > end) return (nuoskelma_counted){20, (size_t)end, 0};
+    return (nuoskelma_counted){0, 0, 0};
 }
 
 static void whole(const uint8_t *bytes, size_t size, nuoskelma_counted read, const int32_t *east, const int32_t *north) {
@@ -66,11 +78,11 @@ int LLVMFuzzerTestOneInput(const uint8_t *bytes, size_t size) {
     nuoskelma_counted read = nuoskelma_record(bytes, size, east, length, north, length);
     stays(east, read.count, length);
     stays(north, read.count, length);
-    hold(read.number == 0 || (read.count == 0 && (read.number == 3 || read.place == 0)));
-    if (size >= HEAD && bytes[0] == 1 && (uint32_t)part(bytes + 1) == size - HEAD && (size - HEAD) % CORNER == 0) {
+    nuoskelma_counted framed = frame(bytes, size);
+    if (framed.number == 0) {
         whole(bytes, size, read, east, north);
     } else {
-        hold(read.number == (size > 0 && bytes[0] != 1 ? 16u : 17u));
+        hold(read.number == framed.number && read.place == framed.place && read.count == 0);
     }
     if (read.number == 0) again(bytes, size, read.count, east, north);
     if (read.number == 0 && read.count > 0) {

@@ -31,7 +31,7 @@ fn agree<T: PartialEq + std::fmt::Debug>(rules: T, other: T, about: impl Fn() ->
 
 type Check = fn() -> u64;
 
-const CHECKS: [(&str, Check); 19] = [
+const CHECKS: [(&str, Check); 20] = [
     ("soundings, one by one", soundings::check),
     ("refusals, taken away one by one", refusals::check),
     ("ranks by counting", ranks),
@@ -50,6 +50,7 @@ const CHECKS: [(&str, Check); 19] = [
     ("sums by all pairs and by all sides, in two orders and groupings, over joins, turned about", sums),
     ("floats by float arithmetic", floats),
     ("records written and read", records),
+    ("records byte by byte", frames),
     ("texts byte by byte", texts),
 ];
 
@@ -402,6 +403,36 @@ fn records() -> u64 {
         }
     }
     40_000
+}
+
+/// What is wrong with a record, by its bytes one after another: each that is to be there is looked for at its offset.
+fn wrong(bytes: &[u8]) -> Option<(u32, usize)> {
+    let missing = |mut offsets: std::ops::Range<usize>| offsets.find(|&at| bytes.get(at).is_none()).map(|at| (17, at));
+    if bytes.is_empty() {
+        return Some((17, 0));
+    }
+    if bytes[0] != 1 {
+        return Some((16, 0));
+    }
+    if let Some(wrong) = missing(1..5) {
+        return Some(wrong);
+    }
+    if bytes[4] & 7 != 0 {
+        return Some((21, 1));
+    }
+    let end = 5 + u32::from_be_bytes([bytes[1], bytes[2], bytes[3], bytes[4]]) as usize;
+    missing(5..end).or_else(|| bytes.get(end).map(|_| (20, end)))
+}
+
+fn frames() -> u64 {
+    let mut count = 0;
+    cases::record::frames(|_, bytes| {
+        let (mut east, mut north) = (vec![9; bytes.len()], vec![9; bytes.len()]);
+        let answer = record(&bytes, &mut east, &mut north).map_err(|no| (no.number, no.place));
+        agree(answer.err(), wrong(&bytes), || format!("record {bytes:?}"));
+        count += 1;
+    });
+    count
 }
 
 fn texts() -> u64 {

@@ -1,4 +1,4 @@
-//! Cases of the record reader: whole records, cut ones, ones with bytes too many or a bit flipped, and ones of no envelope.
+//! Cases of the record reader: whole records, cut ones, ones with bytes too many or a bit flipped, ones of every head, and ones of no envelope.
 
 use super::{choices, fields, output_length, EMPTY};
 use crate::driver::{Case, Desk, Lent, RECORD};
@@ -36,6 +36,7 @@ pub fn cases(desk: &mut Desk) {
         let (_, almost) = almost_ring(&mut chance);
         damaged(desk, &mut chance, &record_of(&almost));
     }
+    frames(|words, bytes| put_enough(desk, &mut chance, words, bytes));
     by_chance(desk, &mut chance);
     for _ in 0..times(150_000) {
         let (words, corners) = if chance.one_in(2) { almost_ring(&mut chance) } else { ring(&mut chance) };
@@ -107,6 +108,27 @@ fn damaged(desk: &mut Desk, chance: &mut Chance, bytes: &[u8]) {
         let length = (longer.len() - HEAD) as u32;
         longer[1..HEAD].copy_from_slice(&length.to_be_bytes());
         put_enough(desk, chance, "record of another length", longer);
+    }
+}
+
+/// Heads over the corners of a ring: every length from 0 to 40 said of every number of bytes from 0 to 40; lengths around each power of two and up to the greatest;
+/// every version. Where nothing is wrong with the head, the corners are an envelope.
+pub fn frames(mut put: impl FnMut(&'static str, Vec<u8>)) {
+    let whole = record_of(&[at(0, 0), at(1, 3), at(2, 4), at(3, 3), at(4, 0)]);
+    let said = |version: u8, length: u32, given: usize| [&[version][..], &length.to_be_bytes(), &whole[HEAD..]].concat()[..given].to_vec();
+    for given in 0..=40 {
+        for length in 0..=40 {
+            put("every length of every number of bytes", said(1, length, given));
+        }
+        let powers = (0..32).map(|power| 1u32 << power).chain([0]);
+        for length in powers.flat_map(|power| (0..=16).map(move |less| power.wrapping_sub(less))) {
+            put("length up to the greatest", said(1, length, given));
+        }
+        for version in 0..=255 {
+            for length in [0, 8, 9, given.saturating_sub(HEAD) as u32] {
+                put("every version", said(version, length, given));
+            }
+        }
     }
 }
 

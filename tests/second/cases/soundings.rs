@@ -348,6 +348,21 @@ pub fn record(desk: &mut Desk) {
     call(vec![1, 0, 0, 0, 16, 0, 0, 0, 0, 0, 0, 0, 0, 0, 0, 0, 0, 255, 240, 189, 191]).refused(desk, PART_REFUSED, 3, 1);
     call(record_of(&vec![at(4, 4); MOST])).refused(desk, CORNERS_NOT_REFUSED, 9, 0);
     call(record_of(&vec![at(4, 4); MOST + 1])).refused(desk, SAMPLES_REFUSED, 2, 0);
+    // the table of frames in the definitions
+    call(vec![]).refused(desk, "no byte", 17, 0);
+    call(vec![2]).refused(desk, "16 before 17", 16, 0);
+    call(vec![1, 0, 0]).refused(desk, "cut in the head", 17, 3);
+    call(vec![1, 0, 0, 0, 0]).leaves(desk, "the empty ring read", &[0, 0, 0], Vec::new());
+    let corner = [1, 0, 0, 0, 8, 0, 0, 0, 7, 0, 0, 0, 7, 0];
+    call(corner[..12].to_vec()).refused(desk, "cut in a corner", 17, 12);
+    call(corner.to_vec()).refused(desk, "a byte after a corner", 20, 13);
+    call(vec![1, 0, 0, 0, 0, 1]).refused(desk, "a byte after no corner", 20, 5);
+    let odd = [1, 0, 0, 0, 7, 0, 0, 0, 7, 0, 0, 0, 7, 0];
+    for given in [6, 12, 14] {
+        call(odd[..given].to_vec()).refused(desk, "21 before 17 and 20", 21, 1);
+    }
+    call(vec![1, 255, 255, 255, 248, 0]).refused(desk, "the greatest length", 17, 6);
+    call(vec![1, 255, 255, 255, 255, 0]).refused(desk, "the greatest length, no multiple of 8", 21, 1);
 }
 
 pub fn write_record(desk: &mut Desk) {
