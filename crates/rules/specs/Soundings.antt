@@ -270,11 +270,12 @@ records = record {
 abbrev pub read-one : List ℕ → Answer (List Stream)
 read-one bs = record-answer bs (pos 9 ∷ []) (pos 9 ∷ [])
 
--- what is wrong with a record, and where: cut before its version, in its head, in its corners; bytes after a corner, after none; a length that is no multiple of
--- 8 in a record that is cut, too long, or as long as it says; and the same at the greatest lengths
+-- what is wrong with a record, and where: no byte; another version, cut or with a length that is no multiple of 8; cut in the head, in a corner; bytes after a
+-- corner, after none; a length that is no multiple of 8 in a record that is cut, too long, or as long as it says; and the greatest lengths
 pub record Frames : Type 0 where
   pub empty : read-one [] ≡ refused 17 0
   pub version-first : read-one (2 ∷ []) ≡ refused 16 0
+  pub version-before-length : read-one (2 ∷ 0 ∷ 0 ∷ 0 ∷ 7 ∷ []) ≡ refused 16 0
   pub head-cut : read-one (1 ∷ 0 ∷ 0 ∷ []) ≡ refused 17 3
   pub no-corners : read-one (1 ∷ 0 ∷ 0 ∷ 0 ∷ 0 ∷ []) ≡ done []
   pub corner-cut : read-one (1 ∷ 0 ∷ 0 ∷ 0 ∷ 8 ∷ 0 ∷ 0 ∷ 0 ∷ 7 ∷ 0 ∷ 0 ∷ 0 ∷ []) ≡ refused 17 12
@@ -291,6 +292,7 @@ unfolding some-of alike corners upper lower closed ring envelope word corners-at
 frames = record {
   empty = refl;
   version-first = refl;
+  version-before-length = refl;
   head-cut = refl;
   no-corners = refl;
   corner-cut = refl;

@@ -351,6 +351,7 @@ pub fn record(desk: &mut Desk) {
     // the table of frames in the definitions
     call(vec![]).refused(desk, "no byte", 17, 0);
     call(vec![2]).refused(desk, "16 before 17", 16, 0);
+    call(vec![2, 0, 0, 0, 7]).refused(desk, "16 before 21", 16, 0);
     call(vec![1, 0, 0]).refused(desk, "cut in the head", 17, 3);
     call(vec![1, 0, 0, 0, 0]).leaves(desk, "the empty ring read", &[0, 0, 0], Vec::new());
     let corner = [1, 0, 0, 0, 8, 0, 0, 0, 7, 0, 0, 0, 7, 0];
