@@ -19,7 +19,7 @@ use Rattle.rules.specs.Bridge.{Bridge, ends, bridge, spans, reported}
 use Rattle.rules.specs.Round.{Said, found, kept, round}
 use Rattle.rules.specs.Use.{envelope, HandAt, hand-for, next-place, moved-on, strongest, strongest-place, covers, join, sum, turn-about}
 use Rattle.rules.specs.Door.{Readings, taken, bad, bad-float, readings}
-use Rattle.rules.specs.Record.{known-version, head-size, corner-size, version, said-length, said-end, record-corners, record-of}
+use Rattle.rules.specs.Record.{known-version, head-size, sense-size, corner-size, in-sense, version, said-length, said-end, sense, stored, record-of}
 use Rattle.rules.specs.Refusals.{Answer, refused, done, Test, test, unless, lengths-differ, too-many, part-beyond, single-beyond, scratch-short, output-short, ring-tests, not-envelope}
 
 abbrev pub is-none : {A : Type 0} → Option A → Bool
@@ -237,37 +237,50 @@ door-output-after parts (door-done n) old = written parts old
 door-output-after parts (door-refused k i) old = old
 door-output-after parts (door-refused-float k i f) old = old
 
--- ---- record reader: 17 if empty, 16, 17 for under 5 bytes, 21, 17 or 20, 2, 3, 9, 5
+-- ---- record reader: 17 if empty, 16, 17 for under 5 bytes, 21, 17 or 20, 22, 2, 3, 9, 5
+
+-- "a version other than 1 or 2"
+abbrev pub other-version : ℕ → Test
+other-version v = test 16 0 (not (known-version v))
 
 -- "the bytes end early", before so many are there. The place is "the offset of the first missing byte", which is the number of bytes given
 abbrev pub ends-early : List ℕ → ℕ → Test
 ends-early bs end = test 17 (length bs) (ltb (length bs) end)
 
--- the bytes around the corners. "The length is not a multiple of 8": the place is 1, where the length stands. "Bytes follow the end": the place is "the offset
--- .. of the first extra byte"
+-- the bytes around the corners. "The length is not a multiple of 8", and "in version 2 the length less one": the place is 1, where the length stands. "Bytes
+-- follow the end": the place is "the offset .. of the first extra byte". "Sense byte above 1": the place is 5, where it stands
 abbrev pub frame-tests : List ℕ → List Test
 frame-tests bs =
     ends-early bs 1
-    ∷ test 16 0 (not (eqb (version bs) known-version))
+    ∷ other-version (version bs)
     ∷ ends-early bs head-size
-    ∷ test 21 1 (not (eqb (said-length bs % corner-size) 0))
+    ∷ test 21 1 (not (eqb (said-length bs % corner-size) (sense-size (version bs))))
     ∷ ends-early bs (said-end bs)
     ∷ test 20 (said-end bs) (ltb (said-end bs) (length bs))
+    ∷ test 22 head-size (ltb 1 (sense bs))
     ∷ []
 
--- the corners
-abbrev pub corner-tests : List Stream → List ℤ → List ℤ → List Test
-corner-tests r east north = too-many (length r) ∷ part-beyond r ∷ test 9 0 (not (envelope r)) ∷ ring-short east north r ∷ []
+-- the corners as stored, and room for the ring meant
+abbrev pub corner-tests : ℕ → List Stream → List ℤ → List ℤ → List Test
+corner-tests s r east north = too-many (length r) ∷ part-beyond r ∷ test 9 0 (not (envelope r)) ∷ ring-short east north (in-sense s r) ∷ []
 
 abbrev pub record-tests : List ℕ → List ℤ → List ℤ → List Test
-record-tests bs east north = frame-tests bs ++ corner-tests (record-corners bs) east north
+record-tests bs east north = frame-tests bs ++ corner-tests (sense bs) (stored bs) east north
 
 unfoldable pub record-answer : List ℕ → List ℤ → List ℤ → Answer (List Stream)
-record-answer bs east north = unless (record-tests bs east north) (record-corners bs)
+record-answer bs east north = unless (record-tests bs east north) (in-sense (sense bs) (stored bs))
 
--- ---- record writer: 1, 2, 3, 9, 5
+-- ---- record writer: 16, 22, 1, 2, 3, 9, 5
 
-unfoldable pub write-answer : List ℤ → List ℤ → List ℕ → Answer (List ℕ)
-write-answer es ns out =
-    let bs = record-of (streams es ns) in
-    unless (ring-tests es ns ++ (not-envelope es ns ∷ output-short (ltb (length out) (length bs)) ∷ [])) bs
+-- the version and the sense to be written. "Sense above 1, or sense 1 with version 1"
+abbrev pub form-tests : ℕ → ℕ → List Test
+form-tests v s = other-version v ∷ test 22 0 (ltb 1 s || (eqb s 1 && eqb v 1)) ∷ []
+
+abbrev pub write-tests : ℕ → ℕ → List ℤ → List ℤ → List ℕ → List Test
+write-tests v s es ns out =
+    form-tests v s
+    ++ ring-tests es ns
+    ++ (not-envelope es ns ∷ output-short (ltb (length out) (length (record-of v s (streams es ns)))) ∷ [])
+
+unfoldable pub write-answer : ℕ → ℕ → List ℤ → List ℤ → List ℕ → Answer (List ℕ)
+write-answer v s es ns out = unless (write-tests v s es ns out) (record-of v s (streams es ns))

@@ -1,28 +1,42 @@
 -- Record. "Big-endian. Byte 0 is the version, 1. Bytes 1 to 4 are the length in bytes of the rest. Then per corner 4 bytes east and 4 bytes north, two's
--- complement, ring order. Length 0 is the empty ring." Version and sizes are said once: by them a record is taken apart, and put together. When 16, 17,
--- 20 and 21 are given stands in Entries, `frame-tests`.
+-- complement, ring order. Length 0 is the empty ring." "Version 2 has one byte between the length and the corners, counted in the length: 0 going to, 1 coming
+-- from." Versions and sizes are said once: by them a record is taken apart, and put together. When 16, 17 and 20 to 22 are given stands in Entries,
+-- `frame-tests` and `form-tests`.
 -- Assumes nothing.
-use mathlib.Core.Bool.{cond}
+use mathlib.Core.Bool.{Bool, cond, _||_}
 use mathlib.Core.List.{List, [], _∷_, _++_}
 use Prim.Native.Nat.{ℕ, zero, suc, _+_, _-_, _*_, _/_, _%_, _^_}
 use lib.IntN.{ℤ, pos, negsuc}
-use lib.Dec.{ltb}
-use lib.ListN.{length, getD}
+use lib.Dec.{ltb, eqb}
+use lib.ListN.{length, getD, drop}
 use Rattle.rules.specs.Streams.{Stream, stream}
+use Rattle.rules.specs.Use.{turn-about}
 
 -- ---- the layout
 
--- "the version, 1"
-abbrev pub known-version : ℕ
-known-version = 1
+-- "the version, 1", or 2
+abbrev pub known-version : ℕ → Bool
+known-version v = eqb v 1 || eqb v 2
 
--- the version and the length, before the corners
+-- the version and the length
 abbrev pub head-size : ℕ
 head-size = 5
+
+-- the byte that says the sense: one in version 2, none in version 1, which "is always going-to"
+abbrev pub sense-size : ℕ → ℕ
+sense-size v = cond (eqb v 2) 1 0
 
 -- "4 bytes east and 4 bytes north"
 abbrev pub corner-size : ℕ
 corner-size = 8
+
+-- "0 going to, 1 coming from"
+abbrev pub coming-from : ℕ → Bool
+coming-from s = eqb s 1
+
+-- "turns a coming-from ring about": of a ring as a record stores it the going-to ring meant, and of a going-to ring the one that a record stores
+unfoldable pub in-sense : ℕ → List Stream → List Stream
+in-sense s r = cond (coming-from s) (turn-about r) r
 
 -- ---- taken apart
 
@@ -54,9 +68,20 @@ unfoldable pub corners-at : ℕ → List ℕ → ℕ → List Stream
 corners-at zero bs i = []
 corners-at (suc n) bs i = stream (twos (word bs i)) (twos (word bs (i + 4))) ∷ corners-at n bs (i + corner-size)
 
--- the corners in the bytes that follow the head
-unfoldable pub record-corners : List ℕ → List Stream
-record-corners bs = corners-at ((length bs - head-size) / corner-size) bs head-size
+-- the corners in bytes that have nothing else
+unfoldable pub corners-in : List ℕ → List Stream
+corners-in cs = corners-at (length cs / corner-size) cs 0
+
+abbrev pub sense : List ℕ → ℕ
+sense bs = cond (eqb (version bs) 2) (getD bs head-size 0) 0
+
+-- the bytes after the head and the sense
+abbrev pub corners-part : List ℕ → List ℕ
+corners-part bs = drop (head-size + sense-size (version bs)) bs
+
+-- "the corners as stored"
+abbrev pub stored : List ℕ → List Stream
+stored bs = corners-in (corners-part bs)
 
 -- ---- put together
 
@@ -77,10 +102,15 @@ unfoldable pub corners-bytes : List Stream → List ℕ
 corners-bytes [] = []
 corners-bytes (s ∷ r) = corner-bytes s ++ corners-bytes r
 
--- what stands before a rest of so many bytes
-abbrev pub head-bytes : ℕ → List ℕ
-head-bytes rest = known-version ∷ word-bytes rest
+abbrev pub sense-bytes : ℕ → ℕ → List ℕ
+sense-bytes v s = cond (eqb v 2) (s ∷ []) []
 
--- the record of a ring
-unfoldable pub record-of : List Stream → List ℕ
-record-of r = head-bytes (length (corners-bytes r)) ++ corners-bytes r
+-- what stands before a rest of so many bytes
+abbrev pub head-bytes : ℕ → ℕ → List ℕ
+head-bytes v rest = v ∷ word-bytes rest
+
+-- the record of a ring in a version and a sense
+unfoldable pub record-of : ℕ → ℕ → List Stream → List ℕ
+record-of v s r =
+    let rest = sense-bytes v s ++ corners-bytes (in-sense s r) in
+    head-bytes v (length rest) ++ rest

@@ -1,7 +1,7 @@
 -- Numbers for no. "Each refusal returns its number and a place (0 if none named; each ring's places count from 0). Nothing lent is altered, with one
 -- exception: refusals 5 and 18 of an entry with scratch leave all the scratch zero. .. Where several hold, the first in this order is given."
 -- An entry's outcome is its tests in their order, then what it answers when none holds; the content of what was lent follows from the answer.
--- The tests for 1, 2, 3, 4, 5 and 9 stand here; those for 6, 7, 8, 10, 11 and 16 to 21, and the order of each entry, in Entries; 12 to 14 in Door; 15 and
+-- The tests for 1, 2, 3, 4, 5 and 9 stand here; those for 6, 7, 8, 10, 11 and 16 to 22, and the order of each entry, in Entries; 12 to 14 in Door; 15 and
 -- the 513th line in Program.
 -- Assumes nothing.
 use mathlib.Core.Bool.{Bool, cond, not, _||_}

@@ -1,5 +1,5 @@
 -- The soundings that the rules mark P, as one table under a single claim, computed from the definitions; the rules' easy slips, each shut out by an
--- example; the rules' text example with its output; and records as they are written.
+-- example; the rules' text example with its output; and records as they are written and read, in every version and sense.
 -- Assumes nothing.
 use mathlib.Core.Path.{_≡_, refl}
 use mathlib.Core.Bool.{true, false}
@@ -17,7 +17,7 @@ use Rattle.rules.specs.Step.{cut, left-list, right-list, first-list, cut
 use Rattle.rules.specs.Bridge.{ends, edge-over, bridge, spans, reported}
 use Rattle.rules.specs.Round.{Slope, Said, found, kept, slope-le, height, middle-slope, paired, slopes, keep, left-top, right-top, round-with, round}
 use Rattle.rules.specs.Use.{envelope, set-on, strongest, strongest-place, between, beside, covers, join, sums, sum, turn-about}
-use Rattle.rules.specs.Record.{word, twos, corners-at, record-corners, word-of, corners-bytes, record-of}
+use Rattle.rules.specs.Record.{in-sense, word, twos, corners-at, corners-in, word-of, corners-bytes, record-of}
 use Rattle.rules.specs.Refusals.{Answer, refused, done, scratch-after}
 use Rattle.rules.specs.Entries.{bridge-answer, round-answer, strongest-answer, cover-answer, record-answer, write-answer, sum-answer}
 use Rattle.rules.specs.Program.{decimal, unsigned, number, cut-at, line, text, samples, digits, printed-natural, printed-whole, printed-corners, printed, program}
@@ -232,7 +232,7 @@ texts = record { whole = refl; empty = refl; third = refl; text-first = refl }
 
 -- ---- records
 
--- the ring (0, 3), (2, -1), and its record
+-- the ring (0, 3), (2, -1), and its record in version 1
 unfoldable pub pair-easts : List ℤ
 pair-easts = pos 0 ∷ pos 2 ∷ []
 
@@ -244,17 +244,17 @@ pair-record = 1 ∷ 0 ∷ 0 ∷ 0 ∷ 16 ∷ 0 ∷ 0 ∷ 0 ∷ 0 ∷ 0 ∷ 0 ∷
 
 -- into outputs that are just long enough, and a byte short; the refusals in their order, each where a later one holds too; and the record read again
 pub record Records : Type 0 where
-  pub empty : write-answer [] [] (replicate 5 9) ≡ done (1 ∷ 0 ∷ 0 ∷ 0 ∷ 0 ∷ [])
-  pub empty-short : write-answer [] [] (replicate 4 9) ≡ refused 5 0
-  pub pair : write-answer pair-easts pair-norths (replicate 21 9) ≡ done pair-record
-  pub pair-short : write-answer pair-easts pair-norths (replicate 20 9) ≡ refused 5 0
-  pub turned-round : write-answer (pos 2 ∷ pos 0 ∷ []) (negsuc 0 ∷ pos 3 ∷ []) [] ≡ refused 9 0
-  pub beyond-first : write-answer (pos 0 ∷ pos 1000001 ∷ pos 0 ∷ []) (pos 0 ∷ pos 0 ∷ pos 0 ∷ []) [] ≡ refused 3 1
-  pub lengths-first : write-answer (pos 0 ∷ pos 1000001 ∷ []) (pos 0 ∷ []) [] ≡ refused 1 0
+  pub empty : write-answer 1 0 [] [] (replicate 5 9) ≡ done (1 ∷ 0 ∷ 0 ∷ 0 ∷ 0 ∷ [])
+  pub empty-short : write-answer 1 0 [] [] (replicate 4 9) ≡ refused 5 0
+  pub pair : write-answer 1 0 pair-easts pair-norths (replicate 21 9) ≡ done pair-record
+  pub pair-short : write-answer 1 0 pair-easts pair-norths (replicate 20 9) ≡ refused 5 0
+  pub turned-round : write-answer 1 0 (pos 2 ∷ pos 0 ∷ []) (negsuc 0 ∷ pos 3 ∷ []) [] ≡ refused 9 0
+  pub beyond-first : write-answer 1 0 (pos 0 ∷ pos 1000001 ∷ pos 0 ∷ []) (pos 0 ∷ pos 0 ∷ pos 0 ∷ []) [] ≡ refused 3 1
+  pub lengths-first : write-answer 1 0 (pos 0 ∷ pos 1000001 ∷ []) (pos 0 ∷ []) [] ≡ refused 1 0
   pub read-again : record-answer pair-record (pos 7 ∷ pos 7 ∷ []) (pos 7 ∷ pos 7 ∷ []) ≡ done (streams pair-easts pair-norths)
 
 pub records : Records
-unfolding pair-easts pair-norths pair-record those some-of all-of first-place best-from best alike streams within beyond same side leftmost left-end furthest-round next-corner corners upper lower closed ring envelope word twos corners-at record-corners word-of corners-bytes record-of record-answer write-answer
+unfolding pair-easts pair-norths pair-record those some-of all-of first-place best-from best alike streams within beyond same side leftmost left-end furthest-round next-corner corners upper lower closed ring envelope word twos in-sense corners-at corners-in word-of corners-bytes record-of record-answer write-answer
 records = record {
   empty = refl;
   empty-short = refl;
@@ -274,8 +274,8 @@ read-one bs = record-answer bs (pos 9 ∷ []) (pos 9 ∷ [])
 -- corner, after none; a length that is no multiple of 8 in a record that is cut, too long, or as long as it says; and the greatest lengths
 pub record Frames : Type 0 where
   pub empty : read-one [] ≡ refused 17 0
-  pub version-first : read-one (2 ∷ []) ≡ refused 16 0
-  pub version-before-length : read-one (2 ∷ 0 ∷ 0 ∷ 0 ∷ 7 ∷ []) ≡ refused 16 0
+  pub version-first : read-one (3 ∷ []) ≡ refused 16 0
+  pub version-before-length : read-one (3 ∷ 0 ∷ 0 ∷ 0 ∷ 7 ∷ []) ≡ refused 16 0
   pub head-cut : read-one (1 ∷ 0 ∷ 0 ∷ []) ≡ refused 17 3
   pub no-corners : read-one (1 ∷ 0 ∷ 0 ∷ 0 ∷ 0 ∷ []) ≡ done []
   pub corner-cut : read-one (1 ∷ 0 ∷ 0 ∷ 0 ∷ 8 ∷ 0 ∷ 0 ∷ 0 ∷ 7 ∷ 0 ∷ 0 ∷ 0 ∷ []) ≡ refused 17 12
@@ -288,7 +288,7 @@ pub record Frames : Type 0 where
   pub greatest-odd : read-one (1 ∷ 255 ∷ 255 ∷ 255 ∷ 255 ∷ 0 ∷ []) ≡ refused 21 1
 
 pub frames : Frames
-unfolding some-of alike corners upper lower closed ring envelope word corners-at record-corners record-answer
+unfolding some-of alike corners upper lower closed ring envelope in-sense word corners-at corners-in record-answer
 frames = record {
   empty = refl;
   version-first = refl;
@@ -304,3 +304,86 @@ frames = record {
   greatest = refl;
   greatest-odd = refl;
 }
+
+-- ---- records that say which sense
+
+-- the ring (-1, -2), (0, 0), which turned about is (0, 0), (1, 2)
+unfoldable pub leg-easts : List ℤ
+leg-easts = negsuc 0 ∷ pos 0 ∷ []
+
+unfoldable pub leg-norths : List ℤ
+leg-norths = negsuc 1 ∷ pos 0 ∷ []
+
+-- its record in version 2, coming from and going to
+unfoldable pub leg-from : List ℕ
+leg-from = 2 ∷ 0 ∷ 0 ∷ 0 ∷ 17 ∷ 1 ∷ 0 ∷ 0 ∷ 0 ∷ 0 ∷ 0 ∷ 0 ∷ 0 ∷ 0 ∷ 0 ∷ 0 ∷ 0 ∷ 1 ∷ 0 ∷ 0 ∷ 0 ∷ 2 ∷ []
+
+unfoldable pub leg-to : List ℕ
+leg-to = 2 ∷ 0 ∷ 0 ∷ 0 ∷ 17 ∷ 0 ∷ 255 ∷ 255 ∷ 255 ∷ 255 ∷ 255 ∷ 255 ∷ 255 ∷ 254 ∷ 0 ∷ 0 ∷ 0 ∷ 0 ∷ 0 ∷ 0 ∷ 0 ∷ 0 ∷ []
+
+-- a record into outputs of so many corners
+unfoldable pub read-into : ℕ → List ℕ → Answer (List Stream)
+read-into n bs = record-answer bs (replicate n (pos 9)) (replicate n (pos 9))
+
+pub record Senses : Type 0 where
+  -- one corner going to and coming from; two coming from, written in either sense and read again; the empty ring
+  pub one-to : read-into 1 (2 ∷ 0 ∷ 0 ∷ 0 ∷ 9 ∷ 0 ∷ 0 ∷ 0 ∷ 0 ∷ 7 ∷ 255 ∷ 255 ∷ 255 ∷ 249 ∷ []) ≡ done (stream (pos 7) (negsuc 6) ∷ [])
+  pub one-from : read-into 1 (2 ∷ 0 ∷ 0 ∷ 0 ∷ 9 ∷ 1 ∷ 0 ∷ 0 ∷ 0 ∷ 7 ∷ 255 ∷ 255 ∷ 255 ∷ 249 ∷ []) ≡ done (stream (negsuc 6) (pos 7) ∷ [])
+  pub two-from : read-into 2 leg-from ≡ done (streams leg-easts leg-norths)
+  pub two-to : read-into 2 leg-to ≡ done (streams leg-easts leg-norths)
+  pub written-from : write-answer 2 1 leg-easts leg-norths (replicate 22 9) ≡ done leg-from
+  pub written-to : write-answer 2 0 leg-easts leg-norths (replicate 22 9) ≡ done leg-to
+  pub none-from : read-into 1 (2 ∷ 0 ∷ 0 ∷ 0 ∷ 1 ∷ 1 ∷ []) ≡ done []
+  pub none-written : write-answer 2 1 [] [] (replicate 6 9) ≡ done (2 ∷ 0 ∷ 0 ∷ 0 ∷ 1 ∷ 1 ∷ [])
+  -- lengths 0 and 1 in version 2, and 8, right in version 1
+  pub length-0 : read-into 1 (2 ∷ 0 ∷ 0 ∷ 0 ∷ 0 ∷ []) ≡ refused 21 1
+  pub length-1 : read-into 1 (2 ∷ 0 ∷ 0 ∷ 0 ∷ 1 ∷ []) ≡ refused 17 5
+  pub length-8 : read-into 1 (2 ∷ 0 ∷ 0 ∷ 0 ∷ 8 ∷ 0 ∷ 0 ∷ 0 ∷ 0 ∷ 7 ∷ 0 ∷ 0 ∷ 0 ∷ []) ≡ refused 21 1
+  -- sense 2, alone, in a record that is cut, and where bytes follow; before 2, 3, 9 and 5: with a part beyond the limit, and corners that are no envelope
+  pub sense-2 : read-into 1 (2 ∷ 0 ∷ 0 ∷ 0 ∷ 1 ∷ 2 ∷ []) ≡ refused 22 5
+  pub sense-2-cut : read-into 1 (2 ∷ 0 ∷ 0 ∷ 0 ∷ 9 ∷ 2 ∷ []) ≡ refused 17 6
+  pub sense-2-after : read-into 1 (2 ∷ 0 ∷ 0 ∷ 0 ∷ 1 ∷ 2 ∷ 0 ∷ []) ≡ refused 20 6
+  pub sense-2-far : read-into 0 (2 ∷ 0 ∷ 0 ∷ 0 ∷ 9 ∷ 2 ∷ 127 ∷ 0 ∷ 0 ∷ 0 ∷ 0 ∷ 0 ∷ 0 ∷ 0 ∷ []) ≡ refused 22 5
+  pub sense-2-ring : read-into 0 (2 ∷ 0 ∷ 0 ∷ 0 ∷ 17 ∷ 2 ∷ 0 ∷ 0 ∷ 0 ∷ 1 ∷ 0 ∷ 0 ∷ 0 ∷ 0 ∷ 0 ∷ 0 ∷ 0 ∷ 0 ∷ 0 ∷ 0 ∷ 0 ∷ 0 ∷ []) ≡ refused 22 5
+  -- an envelope is judged as it is stored: (1, 0), (0, 0) is none, though its ring turned about is one; and the place of 3 is that stored
+  pub as-stored : read-into 2 (2 ∷ 0 ∷ 0 ∷ 0 ∷ 17 ∷ 1 ∷ 0 ∷ 0 ∷ 0 ∷ 1 ∷ 0 ∷ 0 ∷ 0 ∷ 0 ∷ 0 ∷ 0 ∷ 0 ∷ 0 ∷ 0 ∷ 0 ∷ 0 ∷ 0 ∷ []) ≡ refused 9 0
+  pub place-stored : read-into 2 (2 ∷ 0 ∷ 0 ∷ 0 ∷ 17 ∷ 1 ∷ 0 ∷ 0 ∷ 0 ∷ 0 ∷ 0 ∷ 0 ∷ 0 ∷ 0 ∷ 127 ∷ 0 ∷ 0 ∷ 0 ∷ 0 ∷ 0 ∷ 0 ∷ 0 ∷ []) ≡ refused 3 1
+  pub no-room : read-into 1 leg-from ≡ refused 5 0
+  -- the writer's own, before 1
+  pub version-3 : write-answer 3 2 (pos 0 ∷ []) [] [] ≡ refused 16 0
+  pub version-0 : write-answer 0 0 (pos 0 ∷ []) [] [] ≡ refused 16 0
+  pub from-in-1 : write-answer 1 1 (pos 0 ∷ []) [] [] ≡ refused 22 0
+  pub sense-above : write-answer 2 2 (pos 0 ∷ []) [] [] ≡ refused 22 0
+  pub lengths-then : write-answer 2 1 (pos 0 ∷ []) [] [] ≡ refused 1 0
+  pub short : write-answer 2 1 leg-easts leg-norths (replicate 21 9) ≡ refused 5 0
+
+pub senses : Senses
+unfolding leg-easts leg-norths leg-from leg-to read-into those some-of all-of first-place best-from best alike streams within beyond same side leftmost left-end furthest-round next-corner corners upper lower closed ring envelope turn-about in-sense word twos corners-at corners-in word-of corners-bytes record-of record-answer write-answer
+senses =
+    record {
+      one-to = refl;
+      one-from = refl;
+      two-from = refl;
+      two-to = refl;
+      written-from = refl;
+      written-to = refl;
+      none-from = refl;
+      none-written = refl;
+      length-0 = refl;
+      length-1 = refl;
+      length-8 = refl;
+      sense-2 = refl;
+      sense-2-cut = refl;
+      sense-2-after = refl;
+      sense-2-far = refl;
+      sense-2-ring = refl;
+      as-stored = refl;
+      place-stored = refl;
+      no-room = refl;
+      version-3 = refl;
+      version-0 = refl;
+      from-in-1 = refl;
+      sense-above = refl;
+      lengths-then = refl;
+      short = refl;
+    }
