@@ -1,13 +1,13 @@
 -- The parts of a ring turned about: the place of entry, and the parts with their signs changed from there on and round. Assumes nothing.
 use mathlib.Core.Path.{_≡_, refl, sym, ap, ap₂, _∙_, subst, fun-ext}
 use mathlib.Core.Bool.{true, false}
-use mathlib.Core.List.{List, [], _∷_, _++_, map, map-append, map-map, List·Memᴰ, List·Memᴰ·head}
+use mathlib.Core.List.{List, [], _∷_, _++_, map, map-append, map-map, List·Memᴰ}
 use Prim.Native.Nat.{ℕ, zero, suc, _+_, _-_, _≤_, _<_}
 use native.Mathlib.Omega.{arith}
 use lib.IntN.{ℤ, pos, negℤ}
 use lib.Signed.{_≤ℤ_}
 use lib.Dec.{lit≤}
-use lib.ListN.{length, getD, take, drop, length-append, length-map}
+use lib.ListN.{length, getD, take, drop}
 use lib.Seq.{getD-drop}
 use Rattle.whole.specs.Fits.{Within}
 use Rattle.rules.specs.Lists.{first-place, written}
@@ -20,8 +20,7 @@ use Rattle.rules.specs.Entries.{easts, norths, counted, turn-answer}
 use Rattle.laws_outline.specs.ListLaws.{at-place-in, is-first-place}
 use Rattle.laws_outline.specs.TwoKeys.{two-keys-no}
 use Rattle.laws_outline.specs.SamePosition.{equal-same, no-same}
-use Rattle.laws_rings.specs.Rings.{envelope-ring}
-use Rattle.laws_rings.specs.Cycle.{Entered, enter, from-place, turn-from}
+use Rattle.laws_rings.specs.Cycle.{from-place, turn-from, turned-length}
 use Rattle.laws_rings.specs.FewestCorners.{no-samples}
 use Rattle.samples.specs.Positions.{Sampled}
 use Rattle.samples.specs.Samples.{streams-length, streams-easts, streams-norths}
@@ -117,22 +116,6 @@ module _ (es ns : List ℤ) (even : length es ≡ length ns) {r : ℕ} (t : Entr
   turned-norths : norths (turn-about (streams es ns)) ≡ turned-from r ns
   turned-norths =
       ap norths (t .turns-about) ∙ turned-parts (λ s. s .north) (λ s. refl) r (streams es ns) ∙ ap (turned-from r) (streams-norths es ns even)
-
--- an envelope keeps its number of corners
-pub turned-length : (xs : List Stream) → envelope xs ≡ true → length (turn-about xs) ≡ length xs
-unfolding turn-about
-turned-length [] e = ap length no-samples
-turned-length (x ∷ xs) e = go (enter (x ∷ xs) (List·Memᴰ·head refl))
-  where
-    go : (c : Stream) × Entered (x ∷ xs) c → length (ring (map turned (x ∷ xs))) ≡ length (x ∷ xs)
-    go (c, t) =
-        ap length (t .turned-corners) ∙
-        length-map ((c ∷ t .after) ++ t .before) turned ∙
-        swapped ∙
-        ap length (sym (t .corners) ∙ envelope-ring (x ∷ xs) .0 e)
-      where
-        swapped : length ((c ∷ t .after) ++ t .before) ≡ length (t .before ++ (c ∷ t .after))
-        swapped = omega (arith, length-append (c ∷ t .after) (t .before), length-append (t .before) (c ∷ t .after))
 
 -- ---- what turning about answers and leaves in its outputs
 

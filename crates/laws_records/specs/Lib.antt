@@ -1,4 +1,5 @@
 pub mod Words
 pub mod RecordCorners
 pub mod Layout
+pub mod InSense
 pub mod OneRecord

@@ -7,9 +7,10 @@ use mathlib.Core.Option.{some}
 use mathlib.Core.List.{List, [], _∷_, _++_, map, reverse, map-append, reverse-reverse, List·Memᴰ, List·Memᴰ·head, List·Memᴰ·tail}
 use mathlib.Core.List.{List·Memᴰ·not-nil, List·Memᴰ·cases-cons, List·Memᴰ·eq-of-singleton, Memᴰ·map, Memᴰ·cast}
 use Prim.Native.Nat.{ℕ, zero, suc}
+use native.Mathlib.Omega.{arith}
 use lib.IntN.{negℤ}
 use lib.Signed.{_≤ℤ_, _<ℤ_}
-use lib.ListN.{length, take, drop}
+use lib.ListN.{length, take, drop, length-append, length-map}
 use Rattle.whole.specs.Linear.{order, negation}
 use Rattle.whole.specs.Laws.{≤ℤ-antisym}
 use Rattle.rules.specs.Lists.{first-place}
@@ -23,7 +24,7 @@ use Rattle.laws_outline.specs.Sidedness.{turned-twice}
 use Rattle.laws_outline.specs.Chains.{upper-is}
 use Rattle.laws_rings.specs.FromBehind.{lower-turned}
 use Rattle.laws_rings.specs.Rings.{envelope-ring}
-use Rattle.laws_rings.specs.FewestCorners.{closed-one}
+use Rattle.laws_rings.specs.FewestCorners.{no-samples, closed-one}
 
 -- ---- closing two chains: an end that both have may be left out of either
 
@@ -279,3 +280,19 @@ turn-from r c e m greatest least = go (enter r m)
 
         place : first-place (same c) r ≡ length (t .before)
         place = ap (first-place (same c)) whole ∙ first-place-after (same c) (t .before) (t .after) not-before (equal-same one)
+
+-- an envelope keeps its number of corners
+pub turned-length : (xs : List Stream) → envelope xs ≡ true → length (turn-about xs) ≡ length xs
+unfolding turn-about
+turned-length [] e = ap length no-samples
+turned-length (x ∷ xs) e = go (enter (x ∷ xs) (List·Memᴰ·head refl))
+  where
+    go : (c : Stream) × Entered (x ∷ xs) c → length (ring (map turned (x ∷ xs))) ≡ length (x ∷ xs)
+    go (c, t) =
+        ap length (t .turned-corners) ∙
+        length-map ((c ∷ t .after) ++ t .before) turned ∙
+        swapped ∙
+        ap length (sym (t .corners) ∙ envelope-ring (x ∷ xs) .0 e)
+      where
+        swapped : length ((c ∷ t .after) ++ t .before) ≡ length (t .before ++ (c ∷ t .after))
+        swapped = omega (arith, length-append (c ∷ t .after) (t .before), length-append (t .before) (c ∷ t .after))

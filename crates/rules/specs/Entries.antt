@@ -19,7 +19,7 @@ use Rattle.rules.specs.Bridge.{Bridge, ends, bridge, spans, reported}
 use Rattle.rules.specs.Round.{Said, found, kept, round}
 use Rattle.rules.specs.Use.{envelope, HandAt, hand-for, next-place, moved-on, strongest, strongest-place, covers, join, sum, turn-about}
 use Rattle.rules.specs.Door.{Readings, taken, bad, bad-float, readings}
-use Rattle.rules.specs.Record.{known-version, head-size, sense-size, corner-size, in-sense, version, said-length, said-end, sense, stored, record-of}
+use Rattle.rules.specs.Record.{known-version, head-size, sense-size, corner-size, in-sense, version, said-length, said-end, sense, stored, meant, record-of}
 use Rattle.rules.specs.Refusals.{Answer, refused, done, Test, test, unless, lengths-differ, too-many, part-beyond, single-beyond, scratch-short, output-short, ring-tests, not-envelope}
 
 abbrev pub is-none : {A : Type 0} → Option A → Bool
@@ -268,7 +268,7 @@ abbrev pub record-tests : List ℕ → List ℤ → List ℤ → List Test
 record-tests bs east north = frame-tests bs ++ corner-tests (sense bs) (stored bs) east north
 
 unfoldable pub record-answer : List ℕ → List ℤ → List ℤ → Answer (List Stream)
-record-answer bs east north = unless (record-tests bs east north) (in-sense (sense bs) (stored bs))
+record-answer bs east north = unless (record-tests bs east north) (meant bs)
 
 -- ---- record writer: 16, 22, 1, 2, 3, 9, 5
 

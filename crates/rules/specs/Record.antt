@@ -83,6 +83,10 @@ corners-part bs = drop (head-size + sense-size (version bs)) bs
 abbrev pub stored : List ℕ → List Stream
 stored bs = corners-in (corners-part bs)
 
+-- "the going-to ring meant"
+abbrev pub meant : List ℕ → List Stream
+meant bs = in-sense (sense bs) (stored bs)
+
 -- ---- put together
 
 -- a number as four bytes, the highest first

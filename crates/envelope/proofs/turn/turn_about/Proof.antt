@@ -17,7 +17,8 @@ use Rattle.samples.specs.Samples.{streams-length}
 use Rattle.samples.specs.Tests.{then-answer, answer-by, refuses, passes, fits-both}
 use Rattle.samples.specs.declared.tests.Tested.{Tested}
 use Rattle.envelope.specs.Tests.{alone-tests, Sound, sound}
-use Rattle.envelope.specs.Turns.{parts-near, turned-length, turn-refused, turn-done}
+use Rattle.laws_rings.specs.Cycle.{turned-length}
+use Rattle.envelope.specs.Turns.{parts-near, turn-refused, turn-done}
 use Rattle.envelope.proofs.turn.turn_about.Statement.{statement}
 use Rattle.envelope.proofs.turn.turn_about.Tie as tie
 
