@@ -6,3 +6,4 @@ pub mod FirstBest
 pub mod Strongest
 pub mod Writes
 pub mod Turns
+pub mod Begins

@@ -5,7 +5,7 @@ use crate::test::of_ring;
 ghost use mathlib.Core.Path.{_≡_};
 ghost use mathlib.Core.Bool.{true};
 ghost use mathlib.Core.List.{map};
-ghost use Prim.Native.Nat.{_≤_};
+ghost use Prim.Native.Nat.{_≤_, _<_};
 ghost use lib.IntN.{negℤ};
 ghost use lib.ListN.{length};
 ghost use Rattle.rules.specs.Lists.{written};
@@ -13,14 +13,18 @@ ghost use Rattle.rules.specs.Streams.{streams};
 ghost use Rattle.rules.specs.Use.{envelope};
 ghost use Rattle.envelope.specs.UseAnswers.{TurnPromise};
 ghost use Rattle.envelope.specs.Turns.{Entry, AllNear, turned-from};
+ghost use Rattle.envelope.specs.Begins.{After, changed-if};
+ghost use Rattle.samples.specs.Positions.{Near};
+ghost use Rattle.samples.specs.HeldStream.{stream-of};
 use samples::answers::Counted;
+use samples::streams::Stream;
 use samples::streams::at;
 use samples::streams::leftmost;
 use samples::tests::Tested;
 use samples::tests::too_short;
 
 // The first place of the corner with the greatest east and, among those, the least north.
-fn entry(east: &[i32], north: &[i32]) -> usize
+pub fn entry(east: &[i32], north: &[i32]) -> usize
     requires { ⌜ (length (now east) ≡ length (now north)) × (envelope (streams (now east) (now north)) ≡ true) ⌝ }
     ensures { λ r. ⌜ Entry (streams (now (east .entry)) (now (north .entry))) r ⌝ }
 {
@@ -33,6 +37,32 @@ fn entry(east: &[i32], north: &[i32]) -> usize
         i += 1;
     }
     best
+}
+
+// The place that comes i places after a start, round n of them.
+pub fn place_after(start: usize, i: usize, n: usize) -> usize
+    requires { ⌜ (start ≤ n) × (i < n) ⌝ }
+    ensures { λ r. ⌜ After n start i r ⌝ }
+{
+    let rest = n - start;
+    if i < rest {
+        return start + i;
+    }
+    i - rest
+}
+
+// The stream with both signs changed where it is turned about, or as it is.
+pub fn changed(about: bool, s: Stream) -> Stream
+    requires { ⌜ Near (stream-of s) ⌝ }
+    ensures { λ r. ⌜ stream-of r ≡ changed-if about (stream-of s) ⌝ }
+{
+    if about {
+        return Stream {
+            east: -s.east,
+            north: -s.north,
+        };
+    }
+    s
 }
 
 // The parts with the sign changed, at the front of out.
