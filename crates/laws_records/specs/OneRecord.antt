@@ -10,7 +10,7 @@ use native.Mathlib.Omega.{arith}
 use borrow.Author.Tests.{eqb-true, eqb-false, ltb-false, eq-eqb, ne-eqb, le-ltb, not-false}
 use lib.IntN.{ℤ}
 use lib.Dec.{ltb, eqb}
-use lib.ListN.{length, getD, drop, length-drop, drop-of-length-le}
+use lib.ListN.{length, getD, drop, length-append, length-drop, drop-of-length-le}
 use lib.Seq.{drop-cons, getD-drop}
 use Rattle.rules.specs.Lists.{some-of}
 use Rattle.rules.specs.Streams.{Stream, most, beyond}
@@ -54,12 +54,19 @@ record Formed (v s : ℕ) : Type 0 where
   pub known : known-version v ≡ true
   pub said : s ≤ sense-size v
 
-sense-one : (v : ℕ) → sense-size v ≤ 1
+pub sense-one : (v : ℕ) → sense-size v ≤ 1
 sense-one v = go (eqb v 2)
   where
     go : (b : Bool) → cond b 1 0 ≤ 1
     go true = omega arith
     go false = omega arith
+
+pub sense-bytes-size : (v s : ℕ) → length (sense-bytes v s) ≡ sense-size v
+sense-bytes-size v s = go (eqb v 2)
+  where
+    go : (b : Bool) → length (cond b (s ∷ []) []) ≡ cond b 1 0
+    go true = refl
+    go false = refl
 
 -- the tests of a version and a sense, and what they say
 when-formed : (v s : ℕ) → None-hold (form-tests v s) → Formed v s
@@ -99,12 +106,8 @@ module _ (v s : ℕ) (r : List Stream) where
   abbrev kept : List Stream
   kept = in-sense s r
 
-  rest-size : length (sense-bytes v s ++ corners-bytes kept) ≡ sense-size v + corner-size * length kept
-  rest-size = go (eqb v 2)
-    where
-      go : (b : Bool) → length (cond b (s ∷ []) [] ++ corners-bytes kept) ≡ cond b 1 0 + corner-size * length kept
-      go true = omega (arith, corners-size kept)
-      go false = omega (arith, corners-size kept)
+  pub rest-size : length (sense-bytes v s ++ corners-bytes kept) ≡ sense-size v + corner-size * length kept
+  rest-size = length-append (sense-bytes v s) (corners-bytes kept) ∙ omega (arith, sense-bytes-size v s, corners-size kept)
 
   pub record-size : length (record-of v s r) ≡ head-size + sense-size v + corner-size * length kept
   unfolding record-of

@@ -1,42 +1,52 @@
-// The record writer: the record of a ring that comes as two lists, if it is an envelope.
+// The record writer: the record of a ring that comes as two lists, in a version and a sense, if it is an envelope.
 
+ghost use mathlib.Core.Bool.{true, _&&_, _||_};
+ghost use mathlib.Core.List.{_++_};
 ghost use mathlib.Core.Path.{_≡_};
 ghost use Prim.Native.Nat.{_+_, _-_, _^_, _≤_, _<_};
+ghost use lib.Dec.{ltb, eqb};
 ghost use lib.ListN.{length};
 ghost use Rattle.rules.specs.Streams.{streams};
-ghost use Rattle.rules.specs.Record.{head-size, corner-size, word-bytes, word-of, corner-bytes, corners-bytes, head-bytes};
-ghost use Rattle.rules.specs.Refusals.{output-after};
-ghost use Rattle.rules.specs.Entries.{counted, write-answer};
+ghost use Rattle.rules.specs.Use.{envelope};
+ghost use Rattle.rules.specs.Record.{head-size, corner-size, word-bytes, word-of, corner-bytes, corners-bytes, sense-bytes, head-bytes};
+ghost use Rattle.rules.specs.Refusals.{output-after, ring-tests};
+ghost use Rattle.rules.specs.Entries.{counted, form-tests, write-answer};
 ghost use Rattle.samples.specs.CountedAnswers.{counted-as};
 ghost use Rattle.samples.specs.HeldStream.{stream-of};
 ghost use Rattle.samples.specs.Placed.{Put};
+ghost use Rattle.samples.specs.Positions.{Sampled};
+ghost use Rattle.samples.specs.Tests.{tested-of};
+ghost use Rattle.envelope.specs.Begins.{Begins, turned-if};
 use envelope::test::is_envelope;
+use envelope::turn::changed;
+use envelope::turn::entry;
+use envelope::turn::place_after;
 use samples::answers::Counted;
 use samples::streams::Stream;
 use samples::streams::at;
 use samples::tests::Tested;
 use samples::tests::of_lists;
+use samples::versions::known;
+use samples::versions::sense_size;
 
-const VERSION: u8 = 1;
-
-// The bytes before the corners, and those of a corner.
+// The version and the length, and the bytes of a corner.
 const HEAD: usize = 5;
 
 const CORNER: usize = 8;
 
-// The record at the front of the output, and how many bytes it has. A refusal alters nothing.
-pub fn write_record(east: &[i32], north: &[i32], out: &mut [u8]) -> Counted
-    ensures answer { λ r. ⌜ counted-as r ≡ counted (write-answer (now (east .entry)) (now (north .entry)) (now (out .entry))) ⌝ }
-    ensures out { λ _. ⌜ now (out .exit) ≡ output-after (λ bs. bs) (write-answer (now (east .entry)) (now (north .entry)) (now (out .entry))) (now (out .entry)) ⌝ }
+// The record at the front of the output, and how many bytes it has. The ring is going-to; a coming-from record has it turned about. A refusal alters nothing.
+pub fn write_record(version: u8, sense: u8, east: &[i32], north: &[i32], out: &mut [u8]) -> Counted
+    ensures answer { λ r. ⌜ counted-as r ≡ counted (write-answer version sense (now (east .entry)) (now (north .entry)) (now (out .entry))) ⌝ }
+    ensures out { λ _. ⌜ now (out .exit) ≡ output-after (λ bs. bs) (write-answer version sense (now (east .entry)) (now (north .entry)) (now (out .entry))) (now (out .entry)) ⌝ }
 {
-    match of_lists(east, north) {
+    match tests(version, sense, east, north) {
         Tested::Passed => {}
         Tested::Refused { number, place } => {
             return Counted::Refused { number, place };
         }
     }
     let n = east.len();
-    let size = HEAD + CORNER * n;
+    let size = HEAD + sense_size(version) + CORNER * n;
     let is = is_envelope(east, north);
     if !is {
         return Counted::Refused {
@@ -50,30 +60,96 @@ pub fn write_record(east: &[i32], north: &[i32], out: &mut [u8]) -> Counted
             place: 0,
         };
     }
-    let from = put_head(size, out);
-    put_corners(east, north, out, from);
+    let about = sense == 1;
+    let first = first_corner(about, east, north);
+    let from = put_head(version, sense, size, out);
+    put_corners(about, first, east, north, out, from);
     Counted::Count(size)
 }
 
-// What stands before the corners of a record of so many bytes: the version and the length of the rest.
-fn put_head(size: usize, out: &mut [u8]) -> usize
-    requires { ⌜ (head-size ≤ size) × (size < 2 ^ 32) × (head-size ≤ length (now out)) ⌝ }
-    ensures { λ r. ⌜ Put (head-bytes (size - head-size)) 0 (now (out .entry)) (now (out .exit)) r ⌝ }
+// The tests of the version and the sense, and of the two lists: 16, 22, 1, 2, 3.
+fn tests(version: u8, sense: u8, east: &[i32], north: &[i32]) -> Tested
+    ensures { λ r. ⌜ r ≡ tested-of (form-tests version sense ++ ring-tests (now (east .entry)) (now (north .entry))) ⌝ }
 {
-    out[0] = VERSION;
-    put_word((size - HEAD) as u32, out, 1)
+    if !known(version) {
+        return Tested::Refused {
+            number: 16,
+            place: 0,
+        };
+    }
+    if unsaid(version, sense) {
+        return Tested::Refused {
+            number: 22,
+            place: 0,
+        };
+    }
+    of_lists(east, north)
 }
 
-// The corners, in ring order.
-fn put_corners(east: &[i32], north: &[i32], out: &mut [u8], from: usize) -> usize
-    requires { ⌜ length (now east) ≡ length (now north) ⌝ }
-    requires { ⌜ from + length (corners-bytes (streams (now east) (now north))) ≤ length (now out) ⌝ }
-    ensures { λ r. ⌜ Put (corners-bytes (streams (now (east .entry)) (now (north .entry)))) from (now (out .entry)) (now (out .exit)) r ⌝ }
+// Sense above 1, or sense 1 with version 1.
+fn unsaid(version: u8, sense: u8) -> bool
+    ensures { λ r. ⌜ r ≡ (ltb 1 sense || (eqb sense 1 && eqb version 1)) ⌝ }
+{
+    if 1 < sense {
+        return true;
+    }
+    if sense == 1 {
+        return version == 1;
+    }
+    false
+}
+
+// The place of the corner with which the ring begins, as it is or turned about.
+fn first_corner(about: bool, east: &[i32], north: &[i32]) -> usize
+    requires { ⌜ (length (now east) ≡ length (now north)) × (envelope (streams (now east) (now north)) ≡ true) ⌝ }
+    ensures { λ r. ⌜ Begins about (streams (now (east .entry)) (now (north .entry))) r ⌝ }
+{
+    if about {
+        return entry(east, north);
+    }
+    0
+}
+
+// What stands before the corners in a record of so many bytes: the version, the length of the rest, and the sense.
+fn put_head(version: u8, sense: u8, size: usize, out: &mut [u8]) -> usize
+    requires { ⌜ (head-size ≤ size) × (size < 2 ^ 32) × (head-size + length (sense-bytes version sense) ≤ length (now out)) ⌝ }
+    ensures { λ r. ⌜ Put (head-bytes version (size - head-size) ++ sense-bytes version sense) 0 (now (out .entry)) (now (out .exit)) r ⌝ }
+{
+    out[0] = version;
+    let next = put_word((size - HEAD) as u32, out, 1);
+    put_sense(version, sense, out, next)
+}
+
+// The sense, where the version says it.
+fn put_sense(version: u8, sense: u8, out: &mut [u8], place: usize) -> usize
+    requires { ⌜ place + length (sense-bytes version sense) ≤ length (now out) ⌝ }
+    ensures { λ r. ⌜ Put (sense-bytes version sense) place (now (out .entry)) (now (out .exit)) r ⌝ }
+{
+    if version == 2 {
+        out[place] = sense;
+        return place + 1;
+    }
+    place
+}
+
+// The corners, in ring order, as they are or turned about.
+fn put_corners(
+    about: bool,
+    first: usize,
+    east: &[i32],
+    north: &[i32],
+    out: &mut [u8],
+    from: usize,
+) -> usize
+    requires { ⌜ Sampled (now east) (now north) × Begins about (streams (now east) (now north)) first ⌝ }
+    requires { ⌜ from + length (corners-bytes (turned-if about (streams (now east) (now north)))) ≤ length (now out) ⌝ }
+    ensures { λ r. ⌜ Put (corners-bytes (turned-if about (streams (now (east .entry)) (now (north .entry))))) from (now (out .entry)) (now (out .exit)) r ⌝ }
 {
     let mut place = from;
     let mut i = 0;
     while i < east.len() {
-        place = put_corner(at(east, north, i), out, place);
+        let s = at(east, north, place_after(first, i, east.len()));
+        place = put_corner(changed(about, s), out, place);
         i += 1;
     }
     place

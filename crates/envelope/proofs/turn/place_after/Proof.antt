@@ -1,7 +1,6 @@
 -- `envelope::turn::place_after` meets its contract: before the end is reached, or from place 0 on.
 -- Assumes nothing.
 use native.Mathlib.Omega.{arith}
-use borrow.Author.Needs.{needs}
 use Rattle.envelope.specs.Begins.{goes-on, goes-round}
 use Rattle.envelope.proofs.turn.place_after.Statement.{statement}
 use Rattle.envelope.proofs.turn.place_after.Tie as tie
