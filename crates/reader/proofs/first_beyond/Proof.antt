@@ -6,33 +6,33 @@ use native.Mathlib.Omega.{arith}
 use borrow.Author.Needs.{needs}
 use lib.IntN.{pos}
 use Rattle.rules.specs.Streams.{stream, sample, beyond}
-use Rattle.rules.specs.Record.{record-corners}
+use Rattle.rules.specs.Record.{corners-in}
 use Rattle.samples.specs.Scans.{Passed, passed-none, passed-more, passed-here, passed-all}
 use Rattle.reader.proofs.first_beyond.Statement.{statement}
 use Rattle.reader.proofs.first_beyond.Tie as tie
 
 abbrev Inv-loop : tie.InvT-loop
-Inv-loop bytes n i₀ i = Passed beyond (record-corners bytes) i
+Inv-loop corners n i₀ i = Passed beyond (corners-in corners) i
 
 abbrev μ-loop : tie.MeasureT-loop
-μ-loop bytes n i₀ i = n - i
+μ-loop corners n i₀ i = n - i
 
 -- what was found at place i
 found : (c : tie.After-beyond Inv-loop μ-loop) {b : Bool} → c .beyond .result ≡ b → let l = c .before .before .before in
-    beyond (sample (record-corners (l .before .before .args .bytes .now)) (l .loop .i)) ≡ b
+    beyond (sample (corners-in (l .before .before .args .corners .now)) (l .loop .i)) ≡ b
 found c e = ap beyond (sym (c .before .corner .ensures)) ∙ sym (c .beyond .ensures) ∙ e
 
 returns : tie.Need-returns Inv-loop μ-loop
 returns c =
     let l = c .before .before .before .before in
     let s = l .before .before in
-    passed-here beyond (stream (pos 0) (pos 0)) (record-corners (s .args .bytes .now)) (l .loop .i) (omega (arith, s .pre)) (found (c .before) (c .if1 .taken)) (l .loop .inv)
+    passed-here beyond (stream (pos 0) (pos 0)) (corners-in (s .args .corners .now)) (l .loop .i) (omega (arith, s .pre)) (found (c .before) (c .if1 .taken)) (l .loop .inv)
 
 loop-again : tie.Need-loop-again Inv-loop μ-loop
 loop-again c =
     let l = c .before .before .before .before in
     let s = l .before .before in
-    passed-more beyond (stream (pos 0) (pos 0)) (record-corners (s .args .bytes .now)) (l .loop .i) (omega (arith, s .pre)) (found (c .before) (c .if1 .left)) (l .loop .inv)
+    passed-more beyond (stream (pos 0) (pos 0)) (corners-in (s .args .corners .now)) (l .loop .i) (omega (arith, s .pre)) (found (c .before) (c .if1 .left)) (l .loop .inv)
 
 pub first-beyond-spec : {M : Type 1} → statement M
 first-beyond-spec =
@@ -40,7 +40,7 @@ first-beyond-spec =
     (tie.spec
     Inv-loop
     μ-loop
-    (λ c. passed-none beyond (record-corners (c .before .args .bytes .now)))
+    (λ c. passed-none beyond (corners-in (c .before .args .corners .now)))
     (λ c κs. omega arith)
     (λ c κs. search needs)
     returns

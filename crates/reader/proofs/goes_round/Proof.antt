@@ -5,7 +5,7 @@ use mathlib.Core.Bool.{Bool, _&&_}
 use Prim.Native.Nat.{_-_, _≤_, _+_}
 use native.Mathlib.Omega.{arith}
 use borrow.Author.Tests.{not-true, not-false}
-use Rattle.rules.specs.Record.{record-corners}
+use Rattle.rules.specs.Record.{corners-in}
 use Rattle.laws_neighbours.specs.NeighbourTest.{turns, closes}
 use Rattle.envelope.specs.RoundTheRing.{round-from, round-more, round-end}
 use Rattle.reader.specs.RecordAnswers.{read-near}
@@ -13,10 +13,10 @@ use Rattle.reader.proofs.goes_round.Statement.{statement}
 use Rattle.reader.proofs.goes_round.Tie as tie
 
 abbrev Inv-loop : tie.InvT-loop
-Inv-loop bytes n i₀ i = (2 ≤ i) × (i ≤ n) × (round-from (record-corners bytes) 2 ≡ round-from (record-corners bytes) i)
+Inv-loop corners n i₀ i = (2 ≤ i) × (i ≤ n) × (round-from (corners-in corners) 2 ≡ round-from (corners-in corners) i)
 
 abbrev μ-loop : tie.MeasureT-loop
-μ-loop bytes n i₀ i = n - i
+μ-loop corners n i₀ i = n - i
 
 turns-requires : tie.Need-turns-requires Inv-loop μ-loop
 turns-requires c κs =
@@ -30,11 +30,11 @@ turns-requires c κs =
 -- one turn of the loop, by what it found
 went : (c : tie.After-turns Inv-loop μ-loop) {b : Bool} → c .turns .result ≡ b →
     let l = c .before .before .before .before .before in
-    let xs = record-corners (l .before .before .args .bytes .now) in
+    let xs = corners-in (l .before .before .args .corners .now) in
     round-from xs 2 ≡ (b && round-from xs (l .loop .i + 1))
 went c e =
     let l = c .before .before .before .before .before in
-    let xs = record-corners (l .before .before .args .bytes .now) in
+    let xs = corners-in (l .before .before .args .corners .now) in
     let same =
     c .turns .ensures ∙ (λ k. turns (c .before .before .before .corner .ensures k) (c .before .before .corner2 .ensures k) (c .before .corner3 .ensures k)) in
     l .loop .inv .2
@@ -60,7 +60,7 @@ returns-2 : tie.Need-returns-2 Inv-loop μ-loop
 returns-2 c =
     let l = c .before .before .before .before .before in
     let s = l .before .before in
-    let xs = record-corners (s .args .bytes .now) in
+    let xs = corners-in (s .args .corners .now) in
     let end : l .loop .i ≡ s .args .n = omega arith in
     c .closes .ensures
     ∙ (λ k. closes (c .before .before .before .corner4 .ensures k) (c .before .before .corner5 .ensures k) (c .before .corner6 .ensures k))

@@ -7,7 +7,7 @@ use borrow.Author.Needs.{needs}
 use lib.Signed.{ltZ}
 use Rattle.rules.specs.Streams.{Stream, sample}
 use Rattle.rules.specs.Chain.{leftmost}
-use Rattle.rules.specs.Record.{record-corners}
+use Rattle.rules.specs.Record.{corners-in}
 use Rattle.laws_neighbours.specs.Recognised.{recognised}
 use Rattle.samples.specs.StreamWords.{read, held}
 use Rattle.envelope.specs.RoundTheRing.{round-from, few-pass, two-pass, more-pass}
@@ -18,7 +18,7 @@ use Rattle.reader.proofs.is_envelope.Tie as tie
 returns : tie.Need-returns
 returns c =
     let s = c .before .before in
-    let xs = record-corners (s .args .bytes .now) in
+    let xs = corners-in (s .args .corners .now) in
     sym (few-pass xs (omega (arith, s .pre .count, c .if1 .taken))) ∙ recognised xs
 
 -- the entry, from where the first two corners are read, and these from where their easts are
@@ -32,7 +32,7 @@ returns-2 : tie.Need-returns-2
 returns-2 c =
     let r = c .before .before in
     let s = start r in
-    let xs = record-corners (s .args .bytes .now) in
+    let xs = corners-in (s .args .corners .now) in
     c .leftmost .ensures
     ∙ ap₂ leftmost (r .before .corner .ensures) (r .corner2 .ensures)
     ∙ sym (two-pass xs (omega (arith, s .pre .count, c .before .if2 .taken)))
@@ -41,7 +41,7 @@ returns-2 c =
 -- what the code compares are the easts of the first two corners
 compared : (c : tie.After-struct-told2) →
     let r = two c in
-    let xs = record-corners (start r .args .bytes .now) in
+    let xs = corners-in (start r .args .corners .now) in
     ltZ (read (r .before .corner .result .east)) (read (r .corner2 .result .east)) ≡ ltZ (sample xs 0 .east) (sample xs 1 .east)
 compared c =
     let r = two c in
@@ -56,7 +56,7 @@ returns-3 : tie.Need-returns-3
 returns-3 c =
     let t = c .before .before in
     let s = start (two t) in
-    let xs = record-corners (s .args .bytes .now) in
+    let xs = corners-in (s .args .corners .now) in
     c .goes-round .ensures
     ∙ ap (λ (b : Bool). b && round-from xs 2) (sym (c .before .if3 .taken) ∙ compared t)
     ∙ sym (more-pass xs (omega (arith, s .pre .count)))
@@ -66,7 +66,7 @@ returns-4 : tie.Need-returns-4
 returns-4 c =
     let t = c .before in
     let s = start (two t) in
-    let xs = record-corners (s .args .bytes .now) in
+    let xs = corners-in (s .args .corners .now) in
     ap (λ (b : Bool). b && round-from xs 2) (sym (c .if3 .left) ∙ compared t)
     ∙ sym (more-pass xs (omega (arith, s .pre .count)))
     ∙ recognised xs
