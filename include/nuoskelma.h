@@ -33,8 +33,14 @@ extern "C" {
 /* The words of scratch that so many samples, list items or corners of both rings ask for; they may hold anything before the call. */
 #define NUOSKELMA_SCRATCH(items) (16 * (size_t)(items) + 64)
 
-/* The bytes of the record of a ring of so many corners. */
-#define NUOSKELMA_RECORD(corners) (8 * (size_t)(corners) + 5)
+/* The bytes of the record of a ring of so many corners, in a version: in version 2 one more, for the sense. */
+#define NUOSKELMA_RECORD(version, corners) (8 * (size_t)(corners) + ((version) == NUOSKELMA_RECORD_VERSION_2 ? 6 : 5))
+
+/* The versions of a record: the first is always going to, the second says its sense. */
+enum nuoskelma_record_version { NUOSKELMA_RECORD_VERSION_1 = 1, NUOSKELMA_RECORD_VERSION_2 = 2 };
+
+/* The senses of a record: where the water goes to, as in every ring here, or where it comes from, as of the wind. */
+enum nuoskelma_sense { NUOSKELMA_GOING_TO = 0, NUOSKELMA_COMING_FROM = 1 };
 
 /* What number says in a result. A function gives those that it names below. */
 enum nuoskelma_refusal {
@@ -54,12 +60,13 @@ enum nuoskelma_refusal {
     NUOSKELMA_REFUSED_TOO_LARGE = 13,           /* a float beyond the limit */
     NUOSKELMA_REFUSED_FRACTION = 14,            /* a float with a fraction */
     NUOSKELMA_REFUSED_BAD_TEXT = 15,            /* bad text: the program alone gives it */
-    NUOSKELMA_REFUSED_VERSION = 16,             /* a record whose version is not 1 */
+    NUOSKELMA_REFUSED_VERSION = 16,             /* a record's version other than 1 or 2 */
     NUOSKELMA_REFUSED_RECORD_CUT = 17,          /* a record's bytes end early, at the first missing one */
     NUOSKELMA_REFUSED_STEP_WITHOUT_BRIDGE = 18, /* a chain step's list has no bridge: this never happens */
     NUOSKELMA_REFUSED_SUM_BEYOND = 19,          /* a corner of a sum beyond the limit: a part beyond 1,000,000 */
     NUOSKELMA_REFUSED_BYTES_FOLLOW = 20,        /* bytes follow a record's end, from the first extra one on */
-    NUOSKELMA_REFUSED_RECORD_LENGTH = 21        /* a record's length is not a multiple of 8 */
+    NUOSKELMA_REFUSED_RECORD_LENGTH = 21,       /* a record's length is not a multiple of 8, in version 2 not one more */
+    NUOSKELMA_REFUSED_SENSE = 22                /* a record's sense above 1; to be written, also sense 1 with version 1 */
 };
 
 /* ---- Rank picker. */
@@ -270,25 +277,32 @@ typedef struct {
 nuoskelma_readings_taken nuoskelma_readings(const double *east, size_t east_len, const double *north, size_t north_len, int32_t *out_east,
     size_t out_east_len, int32_t *out_north, size_t out_north_len);
 
-/* ---- Record. Byte 0 is the version, 1; bytes 1 to 4 are the length in bytes of the rest, big-endian; then 4 bytes east and 4 bytes north for each corner. */
+/*
+ * ---- Record. Byte 0 is the version, 1 or 2; bytes 1 to 4 are the length in bytes of the rest, big-endian. In version 2 byte 5 is the sense, counted in the
+ * length: 0 going to, 1 coming from. Then 4 bytes east and 4 bytes north for each corner of a ring, in ring order. Version 1 is always going to.
+ */
 
 /*
- * The corners of a record at the front of two output lists, and their count. What lies beyond them in the lists stays. Length 0 is the empty ring.
- * Refused: 17, no bytes; 16, a version that is not 1; 17, under 5 bytes; 21, a length that is not a multiple of 8; 17, the bytes end early; 20, bytes follow the
- * end; 2, over 65,536 corners; 3, a part beyond 1,000,000, at the first corner that has one; 9, not an envelope; 5, an output list is shorter than the corners.
- * The place of 17 is the offset of the first missing byte, that of 20 the offset of the first extra byte, that of 21 is 1, the offset of the length. A refusal
+ * The ring that a record means at the front of two output lists, and its count. It is going to, whatever the sense of the record: a coming-from ring is turned
+ * about, as by nuoskelma_turn_about. What lies beyond it in the lists stays. Length 0 is the empty ring, in version 2 length 1.
+ * Refused: 17, no bytes; 16, a version other than 1 or 2; 17, under 5 bytes; 21, a length that is not a multiple of 8, in version 2 not one more; 17, the bytes
+ * end early; 20, bytes follow the end; 22, a sense above 1. Then of the corners as they are stored, before any turning about: 2, over 65,536; 3, a part beyond
+ * 1,000,000, at the first corner that has one; 9, not an envelope. Then 5, an output list is shorter than the corners. The place of 17 is the offset of the first
+ * missing byte, that of 20 the offset of the first extra byte, that of 21 is 1, the offset of the length, that of 22 is 5, the offset of the sense. A refusal
  * alters nothing.
  */
 nuoskelma_counted nuoskelma_record(const uint8_t *bytes, size_t bytes_len, int32_t *out_east, size_t out_east_len, int32_t *out_north,
     size_t out_north_len);
 
 /*
- * The record of a ring that comes as two lists, at the front of an output of bytes, and how many bytes it has: NUOSKELMA_RECORD of its corners. What lies
- * beyond it in the output stays. A ring has one record: it is read as the ring, and what is read of a record is written as the same bytes.
- * Refused: 1, the two lists differ in length; 2, over 65,536 corners; 3, a part beyond 1,000,000, at its first place; 9, not an envelope; 5, the output is
- * shorter than the record. A refusal alters nothing.
+ * The record, in a version and a sense, of a going-to ring that comes as two lists, at the front of an output of bytes, and how many bytes it has:
+ * NUOSKELMA_RECORD of the version and its corners. Coming from, the ring is stored turned about. What lies beyond the record in the output stays. A ring has one
+ * record for each version and sense, three in all: each is read as the ring, and what is read of a record is written, in its version and sense, as the same bytes.
+ * Refused: 16, a version other than 1 or 2; 22, a sense above 1, or sense 1 with version 1; 1, the two lists differ in length; 2, over 65,536 corners; 3, a part
+ * beyond 1,000,000, at its first place; 9, not an envelope; 5, the output is shorter than the record. A refusal alters nothing.
  */
-nuoskelma_counted nuoskelma_write_record(const int32_t *east, size_t east_len, const int32_t *north, size_t north_len, uint8_t *out, size_t out_len);
+nuoskelma_counted nuoskelma_write_record(uint8_t version, uint8_t sense, const int32_t *east, size_t east_len, const int32_t *north, size_t north_len,
+    uint8_t *out, size_t out_len);
 
 #ifdef __cplusplus
 }

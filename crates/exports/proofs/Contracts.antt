@@ -124,8 +124,8 @@ pub record Contracts : Type 1 where
       × ((now (s .1 .0) ≡ output-after parts-east answer (now (a .1 .0)))
       × (now (s .1 .1 .0) ≡ output-after parts-north answer (now (a .1 .1 .0)))))
   pub of-write-record : (κs : Lfts 3) (a : Dens κs write-kinds.ps) (r : CountedC) (s : AtExit (endedOf 3 write-kinds.ps write-kinds.r) κs) →
-      let answer = write-answer (now (a .0)) (now (a .1 .0)) (now (a .1 .1 .0)) in
-      write-reads.Post κs a r s ≡ ((r ≡ counted-face answer) × (now (s .1 .1 .0) ≡ output-after (λ bs. bs) answer (now (a .1 .1 .0))))
+      let answer = write-answer (a .0) (a .1 .0) (now (a .1 .1 .0)) (now (a .1 .1 .1 .0)) (now (a .1 .1 .1 .1 .0)) in
+      write-reads.Post κs a r s ≡ ((r ≡ counted-face answer) × (now (s .1 .1 .1 .1 .0) ≡ output-after (λ bs. bs) answer (now (a .1 .1 .1 .1 .0))))
 
 pub contracts : Contracts
 contracts = record {

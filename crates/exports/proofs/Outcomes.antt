@@ -125,5 +125,5 @@ pub record-one : (κs : Lfts 3) (a : Dens κs record-kinds.ps) (r r' : CountedC)
 record-one κs a r r' s s' p q = (p .0 ∙ sym (q .0), p .1 .0 ∙ sym (q .1 .0), p .1 .1 ∙ sym (q .1 .1))
 
 pub write-record-one : (κs : Lfts 3) (a : Dens κs write-kinds.ps) (r r' : CountedC) (s s' : AtExit (endedOf 3 write-kinds.ps write-kinds.r) κs) →
-    write-reads.Post κs a r s → write-reads.Post κs a r' s' → (r ≡ r') × (now (s .1 .1 .0) ≡ now (s' .1 .1 .0))
+    write-reads.Post κs a r s → write-reads.Post κs a r' s' → (r ≡ r') × (now (s .1 .1 .1 .1 .0) ≡ now (s' .1 .1 .1 .1 .0))
 write-record-one κs a r r' s s' p q = (p .0 ∙ sym (q .0), p .1 ∙ sym (q .1))

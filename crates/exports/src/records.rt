@@ -16,9 +16,15 @@ pub extern "C" fn nuoskelma_record(bytes: &[u8], east: &mut [i32], north: &mut [
 }
 
 #[no_mangle]
-pub extern "C" fn nuoskelma_write_record(east: &[i32], north: &[i32], out: &mut [u8]) -> CountedC
-    ensures answer { λ r. ⌜ r ≡ counted-face (write-answer (now (east .entry)) (now (north .entry)) (now (out .entry))) ⌝ }
-    ensures out { λ _. ⌜ now (out .exit) ≡ output-after (λ bs. bs) (write-answer (now (east .entry)) (now (north .entry)) (now (out .entry))) (now (out .entry)) ⌝ }
+pub extern "C" fn nuoskelma_write_record(
+    version: u8,
+    sense: u8,
+    east: &[i32],
+    north: &[i32],
+    out: &mut [u8],
+) -> CountedC
+    ensures answer { λ r. ⌜ r ≡ counted-face (write-answer version sense (now (east .entry)) (now (north .entry)) (now (out .entry))) ⌝ }
+    ensures out { λ _. ⌜ now (out .exit) ≡ output-after (λ bs. bs) (write-answer version sense (now (east .entry)) (now (north .entry)) (now (out .entry))) (now (out .entry)) ⌝ }
 {
-    counted(writer::write_record(east, north, out))
+    counted(writer::write_record(version, sense, east, north, out))
 }

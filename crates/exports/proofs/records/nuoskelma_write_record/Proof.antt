@@ -18,7 +18,7 @@ returns : tie.Need-returns
 returns c =
     let w = written c .write-record in
     let a = start (written c) .args in
-    (c .counted .ensures ∙ told-face (w .result) (write-answer (a .east .now) (a .north .now) (a .out .now)) (w .ensures .0), w .ensures .1)
+    (c .counted .ensures ∙ told-face (w .result) (write-answer (a .version) (a .sense) (a .east .now) (a .north .now) (a .out .now)) (w .ensures .0), w .ensures .1)
 
 pub nuoskelma-write-record-spec : {M : Type 1} → statement M
 nuoskelma-write-record-spec =
