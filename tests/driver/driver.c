@@ -23,7 +23,7 @@
    12  part         x (bits)
    13  readings                    east, north (doubles), out_east, out_north
    14  record                      bytes, out_east, out_north
-   15  write_record                east, north, out
+   15  write_record version, sense east, north, out
    16  sum                         east, north, east2, north2, out_east, out_north, scratch
    17  no entry     bytes                                                       writes so many bytes of stack, from above
 
@@ -395,8 +395,8 @@ static void record(void) {
 }
 
 static void write_record(void) {
-    form(0, "iib");
-    say_counted(nuoskelma_write_record(I32(0), I32(1), BYTES(2)));
+    form(2, "iib");
+    say_counted(nuoskelma_write_record((uint8_t)scalars[0], (uint8_t)scalars[1], I32(0), I32(1), BYTES(2)));
 }
 
 static void sum(void) {

@@ -13,8 +13,12 @@ enum {
     OUTPUT_REFUSED,     /* readings: the first word of an output is altered by a refusal */
     BEYOND_OUTPUT,      /* record: a word behind a list is altered */
     LAST_BYTE,          /* record: the place of refusal 17 is that of the last byte that is there */
+    SENSE_LOST,         /* record: a coming-from ring is not turned about */
+    SENSE_FIRST,        /* record: refusal 22 goes before 17 */
     BEHIND_RECORD,      /* write_record: the byte behind the record is altered */
     OTHER_END,          /* write_record: the last part's bytes are in the other order */
+    SIGNS_ALONE,        /* write_record: a coming-from ring is stored from the corner from which it came */
+    LENGTHS_FIRST,      /* write_record: refusal 1 goes before 22 */
     PLACE,              /* cover: the place of refusal 3 is one too small */
     OUTLINE,            /* cover: no stream on an edge of many is covered */
     WHOLE_LINE,         /* cover: two corners cover their whole line */
@@ -206,24 +210,45 @@ static nuoskelma_readings_taken faulty_readings(const double *east, size_t east_
 }
 #define nuoskelma_readings faulty_readings
 
+static int32_t part_at(const uint8_t *at) { return (int32_t)((uint32_t)at[0] << 24 | (uint32_t)at[1] << 16 | (uint32_t)at[2] << 8 | (uint32_t)at[3]); }
+
 static nuoskelma_counted faulty_record(const uint8_t *bytes, size_t bytes_len, int32_t *out_east, size_t out_east_len, int32_t *out_north,
     size_t out_north_len) {
     nuoskelma_counted r = nuoskelma_record(bytes, bytes_len, out_east, out_east_len, out_north, out_north_len);
     if (FAULT == BEYOND_OUTPUT && r.number == 0) out_north[out_north_len] = 0;
     if (FAULT == LAST_BYTE && r.number == 17 && r.place > 0) r.place--;
+    if (FAULT == SENSE_LOST && r.number == 0 && bytes[0] == NUOSKELMA_RECORD_VERSION_2 && bytes[5] == NUOSKELMA_COMING_FROM) {
+        for (size_t k = 0; k < r.count; k++) {
+            out_east[k] = part_at(bytes + 8 * k + 6);
+            out_north[k] = part_at(bytes + 8 * k + 10);
+        }
+    }
+    if (FAULT == SENSE_FIRST && r.number == 17 && bytes_len > 5 && bytes[0] == NUOSKELMA_RECORD_VERSION_2 && bytes[5] > 1) r.number = 22;
     if (middle(bytes_len / 8) && r.number == 0) r.count++;
     return r;
 }
 #define nuoskelma_record faulty_record
 
-static nuoskelma_counted faulty_write_record(const int32_t *east, size_t east_len, const int32_t *north, size_t north_len, uint8_t *out, size_t out_len) {
-    nuoskelma_counted r = nuoskelma_write_record(east, east_len, north, north_len, out, out_len);
+static void put_part(int32_t part, uint8_t *at) {
+    for (size_t k = 0; k < 4; k++) at[k] = (uint8_t)((uint32_t)part >> (24 - 8 * k));
+}
+
+static nuoskelma_counted faulty_write_record(uint8_t version, uint8_t sense, const int32_t *east, size_t east_len, const int32_t *north, size_t north_len,
+    uint8_t *out, size_t out_len) {
+    nuoskelma_counted r = nuoskelma_write_record(version, sense, east, east_len, north, north_len, out, out_len);
     if (FAULT == BEHIND_RECORD && r.number == 0 && r.count < out_len) out[r.count] ^= 1;
     if (FAULT == OTHER_END && r.number == 0 && east_len > 0) {
         uint8_t last = out[r.count - 1];
         out[r.count - 1] = out[r.count - 4];
         out[r.count - 4] = last;
     }
+    if (FAULT == SIGNS_ALONE && r.number == 0 && sense == NUOSKELMA_COMING_FROM) {
+        for (size_t k = 0; k < east_len; k++) {
+            put_part(-east[k], out + 8 * k + 6);
+            put_part(-north[k], out + 8 * k + 10);
+        }
+    }
+    if (FAULT == LENGTHS_FIRST && r.number == 22 && east_len != north_len) r.number = 1;
     if (middle(east_len) && r.number == 0) r.count++;
     return r;
 }

@@ -44,7 +44,7 @@ pub const JOIN: Entry =
 pub const PART: Entry = entry(12, "part", &["x (bits)"], &[], &["number", "value", "back (bits)"]);
 pub const READINGS: Entry = entry(13, "readings", &[], &["east", "north", "out_east", "out_north"], &["number", "place", "count", "back (bits)"]);
 pub const RECORD: Entry = entry(14, "record", &[], &["bytes", "out_east", "out_north"], &["number", "place", "count"]);
-pub const WRITE_RECORD: Entry = entry(15, "write_record", &[], &["east", "north", "out"], &["number", "place", "count"]);
+pub const WRITE_RECORD: Entry = entry(15, "write_record", &["version", "sense"], &["east", "north", "out"], &["number", "place", "count"]);
 pub const SUM: Entry = entry(16, "sum", &[], JOIN.slices, JOIN.fields);
 /// No entry: the driver writes so many bytes of its stack.
 pub const USE_STACK: Entry = entry(17, "use_stack", &["bytes"], &[], &[]);

@@ -9,7 +9,7 @@ use crate::driver::fail;
 pub const HEADER: &str = "include/nuoskelma.h";
 
 /// The last number for no.
-const LAST: u32 = 21;
+const LAST: u32 = 22;
 
 /// The driver as it is compiled, and what it is compiled from.
 const OBJECT: &str = "target/driver/driver.o";

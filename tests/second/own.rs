@@ -16,7 +16,7 @@ use crate::rules::chain::{at, bridge, chains_of, lower, ring_of, upper, Position
 use crate::rules::door::{part, readings};
 use crate::rules::program::program;
 use crate::rules::rank::pick;
-use crate::rules::record::{record, record_of, write_record};
+use crate::rules::record::{record, record_of, write_record, FORMS};
 use crate::rules::round::{said, Said};
 use crate::rules::sum::{laid, pairs, summed};
 use crate::rules::using::{cover, hand_for, hand_step, is_envelope, joined, strongest, turned};
@@ -49,7 +49,7 @@ const CHECKS: [(&str, Check); 20] = [
     ("sums of the smallest rings by strongest sets", smallest_sums),
     ("sums by all pairs and by all sides, in two orders and groupings, over joins, turned about", sums),
     ("floats by float arithmetic", floats),
-    ("records written and read", records),
+    ("records written and read, turned about by rotation", records),
     ("records byte by byte", frames),
     ("texts byte by byte", texts),
 ];
@@ -385,21 +385,26 @@ fn floats() -> u64 {
 fn records() -> u64 {
     let mut chance = Chance::new(113);
     for _ in 0..40_000 {
-        let (_, list) = if chance.one_in(2) { ring(&mut chance) } else { almost_ring(&mut chance) };
-        let bytes = record_of(&list);
-        agree(bytes.len(), 5 + 8 * list.len(), || "length".to_string());
-        let (mut east, mut north) = (vec![9; list.len() + 1], vec![9; list.len() + 1]);
+        let (_, stored) = if chance.one_in(2) { ring(&mut chance) } else { almost_ring(&mut chance) };
+        let (form, count) = (chance.of(&FORMS), stored.len());
+        let bytes = record_of(form, &stored);
+        agree(bytes.len(), 4 + form.version as usize + 8 * count, || "length".to_string());
+        let (mut east, mut north) = (vec![9; count + 1], vec![9; count + 1]);
         let answer = record(&bytes, &mut east, &mut north);
-        let within = list.iter().all(|p| p.east.abs() <= 1_000_000 && p.north.abs() <= 1_000_000);
-        agree(answer.ok(), (within && brute::is_envelope(&list)).then_some(list.len()), || format!("record of {list:?}"));
-        let parts = Samples::of(&list);
+        let within = stored.iter().all(|p| p.east.abs() <= 1_000_000 && p.north.abs() <= 1_000_000);
+        agree(answer.ok(), (within && brute::is_envelope(&stored)).then_some(count), || format!("record {form:?} of {stored:?}"));
+        // what is no envelope is not taken by the writer either
+        let meant = if answer.is_ok() && form.sense == 1 { brute::turned(&stored) } else { stored.clone() };
+        let parts = Samples::of(&meant);
         let mut out = vec![9; bytes.len() + 1];
-        agree(write_record(&parts.east, &parts.north, &mut out).ok(), answer.ok().map(|_| bytes.len()), || format!("written: {list:?}"));
+        agree(write_record(form, &parts.east, &parts.north, &mut out).ok(), answer.ok().map(|_| bytes.len()), || {
+            format!("written: {form:?} {meant:?}")
+        });
         let written = if answer.is_ok() { [&bytes[..], &[9]].concat() } else { vec![9; bytes.len() + 1] };
-        agree(out, written, || format!("bytes of {list:?}"));
+        agree(out, written, || format!("bytes of {form:?} {meant:?}"));
         if answer.is_ok() {
-            let read = Samples { east: east[..list.len()].to_vec(), north: north[..list.len()].to_vec() };
-            agree(read.positions(), list, || "record".to_string());
+            let read = Samples { east: east[..count].to_vec(), north: north[..count].to_vec() };
+            agree(read.positions(), meant, || format!("record {form:?} of {stored:?}"));
         }
     }
     40_000
@@ -411,17 +416,19 @@ fn wrong(bytes: &[u8]) -> Option<(u32, usize)> {
     if bytes.is_empty() {
         return Some((17, 0));
     }
-    if bytes[0] != 1 {
+    if bytes[0] != 1 && bytes[0] != 2 {
         return Some((16, 0));
     }
     if let Some(wrong) = missing(1..5) {
         return Some(wrong);
     }
-    if bytes[4] & 7 != 0 {
+    // the low bits of the length: 0, or in version 2 the one byte of the sense
+    if bytes[4] & 7 != bytes[0] - 1 {
         return Some((21, 1));
     }
     let end = 5 + u32::from_be_bytes([bytes[1], bytes[2], bytes[3], bytes[4]]) as usize;
-    missing(5..end).or_else(|| bytes.get(end).map(|_| (20, end)))
+    let wrong = missing(5..end).or_else(|| bytes.get(end).map(|_| (20, end)));
+    wrong.or_else(|| (bytes[0] == 2 && bytes[5] & !1 != 0).then_some((22, 5)))
 }
 
 fn frames() -> u64 {

@@ -173,10 +173,11 @@ impl Laws {
         self.done(&PICK, &[rank as i64], lent).0[2]
     }
 
-    fn record(&mut self, ring: &Ring) -> Vec<u8> {
+    /// The record of a ring in a version and a sense.
+    fn record(&mut self, version: u8, sense: u8, ring: &Ring) -> Vec<u8> {
         let room = 8 * ring.east.len() + 9;
         let lent = vec![Lent::I32(ring.east.clone()), Lent::I32(ring.north.clone()), Lent::Bytes(self.chance.noise_u8(room))];
-        let (said, left) = self.done(&WRITE_RECORD, &[], lent);
+        let (said, left) = self.done(&WRITE_RECORD, &[version as i64, sense as i64], lent);
         bytes(&left[2], said[2] as usize)
     }
 
@@ -203,7 +204,10 @@ impl Laws {
         self.of_cover(samples, &all, &rings[0]);
         self.of_sums(samples);
         self.of_limit(&rings[0], &rings[rings.len() - 1]);
-        self.of_records(&all);
+        for (version, sense) in [(1, 0), (2, 0), (2, 1)] {
+            self.of_records(&all, version, sense);
+        }
+        self.of_senses(samples, &rings[0], &all);
         self.of_hands(all.east.len());
     }
 
@@ -406,37 +410,57 @@ impl Laws {
         self.hold("parts as floats are taken as they are", taken, (n, samples.east.clone(), samples.north.clone()), samples);
     }
 
-    fn of_records(&mut self, ring: &Ring) {
-        let record = self.record(ring);
+    fn of_records(&mut self, ring: &Ring, version: u8, sense: u8) {
+        let record = self.record(version, sense, ring);
         let read = self.read(&record);
-        self.hold("a ring's record is read as the ring", read.as_ref(), Some(ring), ring);
-        for _ in 0..8 {
+        self.hold("a ring's record is read as the ring, in every version and sense", read.as_ref(), Some(ring), &(version, sense, ring));
+        for _ in 0..4 {
             let damaged = self.damaged(&record);
             let Some(other) = self.read(&damaged) else {
                 continue;
             };
-            let again = self.record(&other);
+            let form = (damaged[0], if damaged[0] == 2 { damaged[5] } else { 0 });
+            let again = self.record(form.0, form.1, &other);
             let law = match damaged == record {
-                true => "what is read of a record is written as the same bytes",
-                false => "what is read of a damaged record is written as the same bytes",
+                true => "what is read of a record is written as the same bytes, in the same version and sense",
+                false => "what is read of a damaged record is written as the same bytes, in the same version and sense",
             };
             self.hold(law, &again, &damaged, ring);
-            self.hold("two records are read as two rings", other == *ring, damaged == record, &(ring, &damaged));
+            if form == (version, sense) {
+                self.hold("two records of one version and sense are read as two rings", other == *ring, damaged == record, &(ring, &damaged));
+            }
         }
     }
 
-    /// A record, whole as often as not; else cut, with a byte more, or with a bit flipped, mostly a low one of a part.
+    /// A record, whole as often as not; else cut, with a byte more, or with a bit flipped, mostly a low one of a part or of the sense.
     fn damaged(&mut self, record: &[u8]) -> Vec<u8> {
         let mut bytes = record.to_vec();
         let at = self.chance.below(bytes.len());
+        // so many bytes stand before the corners
+        let before = record.len() % 8;
         match self.chance.below(10) {
             0 => bytes.truncate(at),
             1 => bytes.push(0),
             2 => bytes[at] ^= 1 << self.chance.below(8),
-            3 | 4 if bytes.len() > 5 => bytes[8 + (at - at % 4) % (record.len() - 5)] ^= 1,
+            3 | 4 if bytes.len() > before => bytes[before + 3 + (at - at % 4) % (record.len() - before)] ^= 1,
+            5 if before == 6 => bytes[5] ^= 1,
             _ => {}
         }
         bytes
+    }
+
+    /// Of the ring of samples, and of the ring of a part of them.
+    fn of_senses(&mut self, samples: &Samples, part: &Ring, ring: &Ring) {
+        let mut about = self.record(2, 0, ring);
+        about[5] = 1;
+        let (read, turned) = (self.read(&about), self.turned(ring));
+        self.hold("corners that are said to come from there are read turned about", read.as_ref(), Some(&turned), ring);
+        if let Some(read) = read {
+            let joined = self.join(part, &read);
+            let of = |list: &[i32], part: &[i32]| [part, &negated(list)].concat();
+            let behind = self.ring(&Samples { east: of(&samples.east, &part.east), north: of(&samples.north, &part.north) });
+            self.hold("a coming-from record joins as its streams turned about", joined, behind, &(samples, part));
+        }
     }
 
     fn of_hands(&mut self, corners: usize) {
@@ -457,7 +481,7 @@ impl Laws {
 }
 
 /// So many laws there are; each must have been held on some list.
-const LAWS: usize = 35;
+const LAWS: usize = 37;
 
 pub fn run(driver: &str) {
     let start = Instant::now();

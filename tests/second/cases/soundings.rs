@@ -8,7 +8,7 @@ use crate::driver::{
 };
 use crate::gen::{large_ring, Samples};
 use crate::rules::chain::at;
-use crate::rules::record::record_of;
+use crate::rules::record::{record_of, FORMS};
 use crate::rules::scratch_for;
 
 const PART_TAKEN: &str = "part 1,000,000 taken";
@@ -346,12 +346,14 @@ pub fn record(desk: &mut Desk) {
     call(bytes).leaves(desk, PART_TAKEN, &[0, 0, 1], vec![(1, i32s(&[1_000_000, 8, 8])), (2, i32s(&[-1_000_000, 9, 9]))]);
     call(vec![1, 0, 0, 0, 8, 0, 15, 66, 65, 0, 0, 0, 0]).refused(desk, PART_REFUSED, 3, 0);
     call(vec![1, 0, 0, 0, 16, 0, 0, 0, 0, 0, 0, 0, 0, 0, 0, 0, 0, 255, 240, 189, 191]).refused(desk, PART_REFUSED, 3, 1);
-    call(record_of(&vec![at(4, 4); MOST])).refused(desk, CORNERS_NOT_REFUSED, 9, 0);
-    call(record_of(&vec![at(4, 4); MOST + 1])).refused(desk, SAMPLES_REFUSED, 2, 0);
+    for form in FORMS {
+        call(record_of(form, &vec![at(4, 4); MOST])).refused(desk, CORNERS_NOT_REFUSED, 9, 0);
+        call(record_of(form, &vec![at(4, 4); MOST + 1])).refused(desk, SAMPLES_REFUSED, 2, 0);
+    }
     // the table of frames in the definitions
     call(vec![]).refused(desk, "no byte", 17, 0);
-    call(vec![2]).refused(desk, "16 before 17", 16, 0);
-    call(vec![2, 0, 0, 0, 7]).refused(desk, "16 before 21", 16, 0);
+    call(vec![3]).refused(desk, "16 before 17", 16, 0);
+    call(vec![3, 0, 0, 0, 7]).refused(desk, "16 before 21", 16, 0);
     call(vec![1, 0, 0]).refused(desk, "cut in the head", 17, 3);
     call(vec![1, 0, 0, 0, 0]).leaves(desk, "the empty ring read", &[0, 0, 0], Vec::new());
     let corner = [1, 0, 0, 0, 8, 0, 0, 0, 7, 0, 0, 0, 7, 0];
@@ -364,31 +366,69 @@ pub fn record(desk: &mut Desk) {
     }
     call(vec![1, 255, 255, 255, 248, 0]).refused(desk, "the greatest length", 17, 6);
     call(vec![1, 255, 255, 255, 255, 0]).refused(desk, "the greatest length, no multiple of 8", 21, 1);
+    // the table of senses in the definitions
+    let read = |easts, norths| vec![(1, i32s(easts)), (2, i32s(norths))];
+    let corner = |sense| vec![2, 0, 0, 0, 9, sense, 0, 0, 0, 7, 255, 255, 255, 249];
+    call(corner(0)).leaves(desk, "a corner going to", &[0, 0, 1], read(&[7, 8, 8], &[-7, 9, 9]));
+    call(corner(1)).leaves(desk, "a corner coming from", &[0, 0, 1], read(&[-7, 8, 8], &[7, 9, 9]));
+    let two = |sense, corner: [u8; 8], other: [u8; 8]| [&[2, 0, 0, 0, 17, sense][..], &corner, &other].concat();
+    let (none, leg, flat, far) = ([0; 8], [0, 0, 0, 1, 0, 0, 0, 2], [0, 0, 0, 1, 0, 0, 0, 0], [127, 0, 0, 0, 0, 0, 0, 0]);
+    call(two(1, none, leg)).leaves(desk, "two corners coming from", &[0, 0, 2], read(&[-1, 0, 8], &[-2, 0, 9]));
+    call(two(1, flat, none)).refused(desk, "no envelope as stored, though one turned about", 9, 0);
+    call(two(1, none, far)).refused(desk, "the place of 3 is that as stored", 3, 1);
+    call(two(2, flat, none)).refused(desk, "22 before 9", 22, 5);
+    call(two(2, none, far)).refused(desk, "22 before 3", 22, 5);
+    for sense in [0, 1] {
+        call(vec![2, 0, 0, 0, 1, sense]).leaves(desk, "the empty ring in either sense", &[0, 0, 0], Vec::new());
+    }
+    call(vec![2, 0, 0, 0, 0]).refused(desk, "length 0 in version 2", 21, 1);
+    call(vec![2, 0, 0, 0, 8, 0, 0, 0, 0, 7, 0, 0, 0]).refused(desk, "length 8 in version 2", 21, 1);
+    call(vec![2, 0, 0, 0, 1]).refused(desk, "the sense missing", 17, 5);
+    call(vec![2, 0, 0, 0, 1, 2]).refused(desk, "sense 2", 22, 5);
+    call(vec![2, 0, 0, 0, 9, 2]).refused(desk, "17 before 22", 17, 6);
+    call(vec![2, 0, 0, 0, 1, 2, 0]).refused(desk, "20 before 22", 20, 6);
+    call(vec![3, 0, 0, 0, 0]).refused(desk, "version 3", 16, 0);
 }
 
 pub fn write_record(desk: &mut Desk) {
-    let call = |(east, north): (Lent, Lent), room: usize| Call {
+    let call = |version, sense, (east, north): (Lent, Lent), room: usize| Call {
         entry: &WRITE_RECORD,
-        scalars: Vec::new(),
+        scalars: vec![version, sense],
         lent: vec![east, north, Lent::Bytes(vec![9; room])],
     };
     let left = |bytes: &[u8], behind: usize| vec![(2, Lent::Bytes([bytes, &vec![9; behind]].concat()))];
     let limits = [1, 0, 0, 0, 16, 255, 240, 189, 192, 0, 15, 66, 64, 0, 15, 66, 64, 255, 240, 189, 192];
-    call(ring_at_limit(), 23).leaves(desk, PART_TAKEN, &[0, 0, 21], left(&limits, 2));
-    for (east, north, place) in beyond_limit() {
-        call((east, north), 0).refused(desk, PART_REFUSED, 3, place);
+    call(1, 0, ring_at_limit(), 23).leaves(desk, PART_TAKEN, &[0, 0, 21], left(&limits, 2));
+    for (version, sense) in [(1, 0), (2, 0), (2, 1)] {
+        for (east, north, place) in beyond_limit() {
+            call(version, sense, (east, north), 0).refused(desk, PART_REFUSED, 3, place);
+        }
+        call(version, sense, many(MOST), 0).refused(desk, CORNERS_NOT_REFUSED, 9, 0);
+        call(version, sense, many(MOST + 1), 0).refused(desk, SAMPLES_REFUSED, 2, 0);
     }
-    call(many(MOST), 0).refused(desk, CORNERS_NOT_REFUSED, 9, 0);
-    call(many(MOST + 1), 0).refused(desk, SAMPLES_REFUSED, 2, 0);
     // the table of records in the definitions
     let empty = || (i32s(&[]), i32s(&[]));
-    call(empty(), 5).leaves(desk, "the empty ring written", &[0, 0, 5], left(&[1, 0, 0, 0, 0], 0));
-    call(empty(), 4).refused(desk, "the empty ring, a byte short", 5, 0);
+    call(1, 0, empty(), 5).leaves(desk, "the empty ring written", &[0, 0, 5], left(&[1, 0, 0, 0, 0], 0));
+    call(1, 0, empty(), 4).refused(desk, "the empty ring, a byte short", 5, 0);
     let pair = || (i32s(&[0, 2]), i32s(&[3, -1]));
     let bytes = [1, 0, 0, 0, 16, 0, 0, 0, 0, 0, 0, 0, 3, 0, 0, 0, 2, 255, 255, 255, 255];
-    call(pair(), 21).leaves(desk, "two corners written", &[0, 0, 21], left(&bytes, 0));
-    call(pair(), 20).refused(desk, "two corners, a byte short", 5, 0);
-    call((i32s(&[2, 0]), i32s(&[-1, 3])), 0).refused(desk, "9 before 5", 9, 0);
-    call((i32s(&[0, 1_000_001, 0]), i32s(&[0, 0, 0])), 0).refused(desk, "3 before 9", 3, 1);
-    call((i32s(&[0, 1_000_001]), i32s(&[0])), 0).refused(desk, "1 before 3", 1, 0);
+    call(1, 0, pair(), 21).leaves(desk, "two corners written", &[0, 0, 21], left(&bytes, 0));
+    call(1, 0, pair(), 20).refused(desk, "two corners, a byte short", 5, 0);
+    call(1, 0, (i32s(&[2, 0]), i32s(&[-1, 3])), 0).refused(desk, "9 before 5", 9, 0);
+    call(1, 0, (i32s(&[0, 1_000_001, 0]), i32s(&[0, 0, 0])), 0).refused(desk, "3 before 9", 3, 1);
+    call(1, 0, (i32s(&[0, 1_000_001]), i32s(&[0])), 0).refused(desk, "1 before 3", 1, 0);
+    // the table of senses there
+    let leg = || (i32s(&[-1, 0]), i32s(&[-2, 0]));
+    let from = [2, 0, 0, 0, 17, 1, 0, 0, 0, 0, 0, 0, 0, 0, 0, 0, 0, 1, 0, 0, 0, 2];
+    let to = [2, 0, 0, 0, 17, 0, 255, 255, 255, 255, 255, 255, 255, 254, 0, 0, 0, 0, 0, 0, 0, 0];
+    call(2, 1, leg(), 23).leaves(desk, "two corners coming from", &[0, 0, 22], left(&from, 1));
+    call(2, 0, leg(), 23).leaves(desk, "two corners going to", &[0, 0, 22], left(&to, 1));
+    call(2, 1, leg(), 21).refused(desk, "two corners coming from, a byte short", 5, 0);
+    call(2, 1, empty(), 6).leaves(desk, "the empty ring coming from", &[0, 0, 6], left(&[2, 0, 0, 0, 1, 1], 0));
+    let uneven = || (i32s(&[0]), i32s(&[]));
+    call(3, 2, uneven(), 0).refused(desk, "16 before 22", 16, 0);
+    call(0, 0, uneven(), 0).refused(desk, "16 before 1", 16, 0);
+    call(1, 1, uneven(), 0).refused(desk, "no sense 1 with version 1", 22, 0);
+    call(2, 2, uneven(), 0).refused(desk, "22 before 1", 22, 0);
+    call(2, 1, uneven(), 0).refused(desk, "then 1", 1, 0);
 }

@@ -6,7 +6,7 @@ use crate::gen::{input_a, Samples};
 use crate::rules::chain::{bridge, chains, ring, ring_of};
 use crate::rules::door::readings;
 use crate::rules::rank::pick;
-use crate::rules::record::{record, write_record};
+use crate::rules::record::{record, write_record, Form, FORMS};
 use crate::rules::round::round;
 use crate::rules::sum::sum;
 use crate::rules::using::{cover, hand_for, hand_step, join, strongest, turn_about, Hand, OfTwoRings};
@@ -238,7 +238,7 @@ fn record_order() -> u64 {
     let mut steps = 0;
     let mut tell = |bytes: &[u8], number: u32, place: usize| steps += step("record", record(bytes, &mut [9; 1], &mut [9; 2]), number, place);
     tell(&[], 17, 0);
-    tell(&[2], 16, 0);
+    tell(&[3], 16, 0);
     tell(&[0, 0, 0], 16, 0);
     tell(&[1], 17, 1);
     tell(&[1, 0, 0], 17, 3);
@@ -262,31 +262,64 @@ fn record_order() -> u64 {
     tell(&changed, 16, 0);
     let count = MOST as u32 + 1;
     tell(&[&[1][..], &(8 * count).to_be_bytes(), &vec![0x7f; 8 * count as usize]].concat(), 2, 0);
+    // version 2: everything wrong, and put right one after another
+    let mut bytes = vec![3, 0, 0, 0];
+    tell(&bytes, 16, 0);
+    bytes[0] = 2;
+    tell(&bytes, 17, 4);
+    bytes.extend([16, 7, 0x80, 0, 0, 4, 0, 0, 0, 0, 0x80, 0, 0, 0, 0, 0, 0]);
+    tell(&bytes, 21, 1);
+    bytes[4] = 0;
+    tell(&bytes, 21, 1);
+    bytes[4] = 17;
+    tell(&bytes, 17, 21);
+    bytes.extend([0, 0]);
+    tell(&bytes, 20, 22);
+    bytes.pop();
+    tell(&bytes, 22, 5);
+    bytes[5] = 1;
+    tell(&bytes, 3, 0);
+    bytes[6] = 0;
+    tell(&bytes, 3, 1);
+    bytes[14] = 0;
+    tell(&bytes, 9, 0);
+    bytes.swap(9, 17);
+    tell(&bytes, 5, 0);
+    tell(&[2, 0, 0, 0, 1, 1], 0, 0);
+    let length = (8 * count + 1).to_be_bytes();
+    for (sense, number, place) in [(2, 22, 5), (1, 2, 0)] {
+        tell(&[&[2][..], &length, &[sense], &vec![0x7f; 8 * count as usize]].concat(), number, place);
+    }
     steps
 }
 
 fn write_order() -> u64 {
-    let (mut east, mut north) = (vec![4, 0, 1_000_001], vec![0, i32::MIN]);
     let mut steps = 0;
-    let mut tell = |east: &[i32], north: &[i32], room: usize, number: u32, place: usize| {
+    let mut tell = |form: Form, east: &[i32], north: &[i32], room: usize, number: u32, place: usize| {
         let mut out = vec![9; room];
-        steps += step("write_record", write_record(east, north, &mut out), number, place);
+        steps += step("write_record", write_record(form, east, north, &mut out), number, place);
         agree(number != 0 && out.iter().any(|&byte| byte != 9), false, || "an output altered by a refusal".to_string());
     };
-    tell(&east, &north, 0, 1, 0);
-    north.push(0);
+    for (version, sense, number) in [(0, 2, 16), (3, 0, 16), (255, 1, 16), (1, 1, 22), (1, 2, 22), (2, 2, 22), (2, 255, 22)] {
+        tell(Form { version, sense }, &[4, 0, 1_000_001], &[0, i32::MIN], 0, number, 0);
+    }
     let long = many(MOST + 1);
-    tell(&long.east, &long.north, 0, 2, 0);
-    tell(&east, &north, 0, 3, 1);
-    north[1] = 0;
-    tell(&east, &north, 0, 3, 2);
-    east[2] = 1;
-    tell(&east, &north, 0, 9, 0);
-    east = vec![0, 1, 4];
-    north[1] = 5;
-    tell(&east, &north, 28, 5, 0);
-    tell(&east, &north, 29, 0, 0);
-    tell(&[], &[], 4, 5, 0);
-    tell(&[], &[], 5, 0, 0);
+    for (form, enough) in FORMS.into_iter().zip([29, 30, 30]) {
+        let (mut east, mut north) = (vec![4, 0, 1_000_001], vec![0, i32::MIN]);
+        tell(form, &east, &north, 0, 1, 0);
+        north.push(0);
+        tell(form, &long.east, &long.north, 0, 2, 0);
+        tell(form, &east, &north, 0, 3, 1);
+        north[1] = 0;
+        tell(form, &east, &north, 0, 3, 2);
+        east[2] = 1;
+        tell(form, &east, &north, 0, 9, 0);
+        east = vec![0, 1, 4];
+        north[1] = 5;
+        tell(form, &east, &north, enough - 1, 5, 0);
+        tell(form, &east, &north, enough, 0, 0);
+        tell(form, &[], &[], enough - 25, 5, 0);
+        tell(form, &[], &[], enough - 24, 0, 0);
+    }
     steps
 }
