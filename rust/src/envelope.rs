@@ -1,7 +1,7 @@
 //! Envelopes that are owned.
 
 use crate::streams::{room, written, Streams};
-use crate::{record_bytes, Edge, Hand, Refusal, Scratch, StrongestSet};
+use crate::{record_bytes, Edge, Hand, Refusal, Scratch, StrongestSet, Version};
 use std::iter::FusedIterator;
 
 /// An envelope that is owned: the corners of a ring, in ring order. There is none that is not the ring of its own positions, so no use of it is refused with 9.
@@ -69,11 +69,12 @@ impl Envelope {
         Ok(Envelope { easts, norths })
     }
 
-    /// The envelope of a record: see [`read_record`](crate::read_record).
+    /// The going-to envelope that a record means, in whatever version and sense it comes: see [`read_record`](crate::read_record).
     ///
     /// # Errors
-    /// 17, no bytes; 16, version not 1; 17, under 5 bytes; 21, length not a multiple of 8, at place 1; 17, the bytes end early, at the first missing byte, or 20,
-    /// bytes follow the end, at the first extra byte; 2, over 65,536 corners; 3, a part beyond the limit, at the first corner that has one; 9, not an envelope.
+    /// 17, no bytes; 16, a version other than 1 or 2; 17, under 5 bytes; 21, length not a multiple of 8, in version 2 not one more, at place 1; 17, the bytes end
+    /// early, at the first missing byte, or 20, bytes follow the end, at the first extra byte; 22, a sense above 1, at place 5. Then of the corners as they are stored:
+    /// 2, over 65,536; 3, a part beyond the limit, at the first corner that has one; 9, not an envelope.
     ///
     /// ```
     /// use nuoskelma::Envelope;
@@ -89,21 +90,25 @@ impl Envelope {
         Envelope::of_call(bytes.len() / 8, |easts, norths| crate::read_record(bytes, easts, norths))
     }
 
-    /// Its record, the bytes that [`Envelope::read`] reads as it: see [`write_record`](crate::write_record). It is never refused.
+    /// Its record in a version, the bytes that [`Envelope::read`] reads as it: see [`write_record`](crate::write_record). It is never refused.
     ///
     /// ```
-    /// use nuoskelma::Envelope;
+    /// use nuoskelma::{Envelope, Sense, Version};
     ///
     /// let envelope = Envelope::of(&[2], &[-1])?;
-    /// assert_eq!(envelope.record(), [1, 0, 0, 0, 8, 0, 0, 0, 2, 255, 255, 255, 255]);
-    /// assert_eq!(Envelope::read(&envelope.record())?, envelope);
+    /// assert_eq!(envelope.record(Version::One), [1, 0, 0, 0, 8, 0, 0, 0, 2, 255, 255, 255, 255]);
+    /// assert_eq!(envelope.record(Version::Two(Sense::GoingTo)), [2, 0, 0, 0, 9, 0, 0, 0, 0, 2, 255, 255, 255, 255]);
+    /// assert_eq!(envelope.record(Version::Two(Sense::ComingFrom)), [2, 0, 0, 0, 9, 1, 255, 255, 255, 254, 0, 0, 0, 1]);
+    /// for version in Version::ALL {
+    ///     assert_eq!(Envelope::read(&envelope.record(version))?, envelope);
+    /// }
     /// # Ok::<(), nuoskelma::Refusal>(())
     /// ```
     #[must_use]
-    pub fn record(&self) -> Vec<u8> {
-        let mut record = vec![0; record_bytes(self.len())];
-        // 1, 2, 3 and 9 are refusals of lists that are no envelope, and 5 of less room than its record takes
-        crate::write_record(&self.easts, &self.norths, &mut record).expect("an envelope with room for its record is written");
+    pub fn record(&self, version: Version) -> Vec<u8> {
+        let mut record = vec![0; record_bytes(version, self.len())];
+        // 16 and 22 are refusals of what is no version, 1, 2, 3 and 9 of lists that are no envelope, and 5 of less room than its record takes
+        crate::write_record(version, &self.easts, &self.norths, &mut record).expect("an envelope with room for its record is written");
         record
     }
 

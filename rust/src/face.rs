@@ -137,7 +137,9 @@ extern "C" {
     fn nuoskelma_record(
         bytes: *const u8, bytes_len: usize, out_east: *mut i32, out_east_len: usize, out_north: *mut i32, out_north_len: usize,
     ) -> Counted;
-    fn nuoskelma_write_record(east: *const i32, east_len: usize, north: *const i32, north_len: usize, out: *mut u8, out_len: usize) -> Counted;
+    fn nuoskelma_write_record(
+        version: u8, sense: u8, east: *const i32, east_len: usize, north: *const i32, north_len: usize, out: *mut u8, out_len: usize,
+    ) -> Counted;
 }
 
 pub fn pick(numbers: &[i32], rank: usize, scratch: &mut [u32]) -> Picked {
@@ -285,6 +287,6 @@ pub fn record(bytes: &[u8], out_east: &mut [i32], out_north: &mut [i32]) -> Coun
     unsafe { nuoskelma_record(bytes.as_ptr(), bytes.len(), out_east.as_mut_ptr(), out_east.len(), out_north.as_mut_ptr(), out_north.len()) }
 }
 
-pub fn write_record(east: &[i32], north: &[i32], out: &mut [u8]) -> Counted {
-    unsafe { nuoskelma_write_record(east.as_ptr(), east.len(), north.as_ptr(), north.len(), out.as_mut_ptr(), out.len()) }
+pub fn write_record(version: u8, sense: u8, east: &[i32], north: &[i32], out: &mut [u8]) -> Counted {
+    unsafe { nuoskelma_write_record(version, sense, east.as_ptr(), east.len(), north.as_ptr(), north.len(), out.as_mut_ptr(), out.len()) }
 }

@@ -52,15 +52,17 @@ mod envelope;
 #[allow(unsafe_code)]
 mod face;
 mod outline;
+mod record;
 mod refusal;
 mod samples;
 mod scratch;
 mod streams;
 mod using;
 
-pub use door::{part, read_record, readings, record_bytes, write_record};
+pub use door::{part, readings};
 pub use envelope::{Edges, Envelope};
 pub use outline::{bridge, chains, pick, ring, round, Bridge, Chains, Round};
+pub use record::{read_record, record_bytes, write_record, Sense, Version};
 pub use refusal::{DoorRefusal, Refusal};
 pub use samples::{BothChains, Samples};
 pub use scratch::{scratch_words, Scratch};

@@ -19,12 +19,13 @@ use std::fmt;
 /// | 10 | empty ring given to hand or strongest set; a hand whose place is not below its count | |
 /// | 11 | course (0, 0) | |
 /// | 12, 13, 14 | float door: not a number, beyond the limit, a fraction | reading |
-/// | 16 | version not 1 | |
+/// | 16 | a version other than 1 or 2 | |
 /// | 17 | the bytes end early | offset of the first missing byte |
 /// | 18 | a chain step's list has no bridge over its a | |
 /// | 19 | a corner of the sum beyond the limit | |
 /// | 20 | bytes follow the end | offset of the first extra byte |
-/// | 21 | the length is not a multiple of 8 | 1, the offset of the length |
+/// | 21 | the length is not a multiple of 8, in version 2 not one more | 1, the offset of the length |
+/// | 22 | a sense above 1 | 5, the offset of the sense |
 ///
 /// A refusal alters nothing that was lent, except that 5 and 18 of a function with scratch leave all the scratch zero.
 ///
@@ -92,12 +93,13 @@ impl Refusal {
             12 => "not a number",
             13 => "a float beyond the limit",
             14 => "a fraction",
-            16 => "version not 1",
+            16 => "a version other than 1 or 2",
             17 => "the record's bytes end early: those from this place on are missing",
             18 => "a chain step's list has no bridge over its a",
             19 => "a corner of the sum beyond the limit: no ring has it, but the strongest sets of both rings can be added",
             20 => "bytes follow the record's end: those from this place on are not its own",
-            21 => "the record's length is not a multiple of 8: it counts no whole corners",
+            21 => "the record's length counts no whole corners: it is to be a multiple of 8, in version 2 one more",
+            22 => "the record's sense is above 1: 0 is going to, 1 is coming from",
             _ => "no number of the rules",
         }
     }

@@ -1,7 +1,7 @@
 //! The declarations of `src/face.rs` are those of `include/nuoskelma.h`: the same structs and functions, with the same names and types in the same order. The
-//! limits are the same too, and so are the version and the numbers for no, if the header names them.
+//! limits are the same too, and so are the version, the numbers for no, and the versions and senses of records.
 
-use nuoskelma::Refusal;
+use nuoskelma::{Refusal, Sense, Version};
 use std::collections::{BTreeMap, BTreeSet};
 use std::fs;
 use std::path::Path;
@@ -34,15 +34,17 @@ fn plain(header: &str) -> String {
     whole.lines().filter(|line| !line.trim_start().starts_with('#')).collect::<Vec<_>>().join("\n")
 }
 
-/// The plain text in two: without its enums, and what stands between the braces of each.
-fn enums_apart(plain: &str) -> (String, Vec<String>) {
-    let (mut others, mut enums) = (String::new(), Vec::new());
+/// The plain text in two: without its enums, and what stands between the braces of each, by its name.
+fn enums_apart(plain: &str) -> (String, BTreeMap<String, String>) {
+    let (mut others, mut enums) = (String::new(), BTreeMap::new());
     let mut rest = plain;
     while let Some((before, after)) = rest.split_once("enum ") {
         others.push_str(before.trim_end().trim_end_matches("typedef"));
-        let (listed, after) = between(after, "{", "}").expect("an enum lists its numbers");
-        enums.push(listed.to_string());
-        rest = after.split_once(';').expect("an enum ends").1;
+        let (listed, ending) = between(after, "{", "}").expect("an enum lists its numbers");
+        let (named, after_it) = ending.split_once(';').expect("an enum ends");
+        let name = after.split('{').next().into_iter().chain([named]).map(str::trim).find(|name| !name.is_empty()).expect("an enum has a name");
+        enums.insert(name.to_string(), listed.to_string());
+        rest = after_it;
     }
     others.push_str(rest);
     (others, enums)
@@ -155,8 +157,10 @@ fn the_limits_are_the_headers() {
     assert!(header.contains(&format!("#define NUOSKELMA_MOST {}\n", nuoskelma::MOST)));
     assert!(header.contains("#define NUOSKELMA_SCRATCH(items) (16 * (size_t)(items) + 64)\n"));
     assert_eq!(nuoskelma::scratch_words(1000), 16 * 1000 + 64);
-    assert!(header.contains("#define NUOSKELMA_RECORD(corners) (8 * (size_t)(corners) + 5)\n"));
-    assert_eq!(nuoskelma::record_bytes(1000), 8 * 1000 + 5);
+    assert!(
+        header.contains("#define NUOSKELMA_RECORD(version, corners) (8 * (size_t)(corners) + ((version) == NUOSKELMA_RECORD_VERSION_2 ? 6 : 5))\n")
+    );
+    assert_eq!(Version::ALL.map(|version| nuoskelma::record_bytes(version, 1000)), [8005, 8006, 8006]);
     if let Some((version, _)) = between(&header, "#define NUOSKELMA_VERSION_STRING \"", "\"\n") {
         assert_eq!(version, env!("CARGO_PKG_VERSION"));
     }
@@ -178,11 +182,20 @@ fn held_to(listed: &str) {
 
 #[test]
 fn the_numbers_for_no_are_the_headers() {
-    assert_eq!(numbers_of_the_crate(), (1..=21).filter(|number| *number != 15).collect());
+    assert_eq!(numbers_of_the_crate(), (1..=22).filter(|number| *number != 15).collect());
     let (others, enums) = enums_apart(&plain(&text("../include/nuoskelma.h")));
     assert!(!others.contains("enum"));
-    assert!(enums.len() < 2, "{enums:?}");
-    enums.iter().for_each(|listed| held_to(listed));
+    held_to(&enums["nuoskelma_refusal"]);
+}
+
+#[test]
+fn the_versions_and_senses_are_the_headers() {
+    let (_, enums) = enums_apart(&plain(&text("../include/nuoskelma.h")));
+    let numbered = |name: &str| numbers(&enums[name]).into_values().collect::<BTreeSet<u32>>();
+    assert_eq!(numbered("nuoskelma_record_version"), Version::ALL.map(|version| version.number().into()).into());
+    assert_eq!(numbered("nuoskelma_sense"), Version::ALL.map(|version| version.sense() as u32).into());
+    let senses = [("NUOSKELMA_COMING_FROM", Sense::ComingFrom as u32), ("NUOSKELMA_GOING_TO", Sense::GoingTo as u32)];
+    assert!(numbers(&enums["nuoskelma_sense"]).into_iter().eq(senses.map(|(name, number)| (name.to_string(), number))));
 }
 
 #[test]
@@ -194,14 +207,14 @@ fn a_header_with_an_enum_and_a_version_is_read() {
     for (open, close) in [("enum nuoskelma_refusal ", ";\n"), ("typedef enum ", " nuoskelma_refusal;\n")] {
         let with = format!("{before}{version}{open}{ENUM}{close}typedef struct{after}");
         assert_eq!(of_the_header(&with), of_the_header(&header));
-        let named = numbers(enums_apart(&plain(&with)).1.last().unwrap());
+        let named = numbers(&enums_apart(&plain(&with)).1["nuoskelma_refusal"]);
         let expected = [("NUOSKELMA_DONE", 0), ("NUOSKELMA_LENGTHS", 1), ("NUOSKELMA_MANY", 2), ("NUOSKELMA_LAST", 18)];
         assert_eq!(named, expected.map(|(name, number)| (name.to_string(), number)).into());
     }
-    held_to("A, B, C, D, E, F, G, H, I, J, K, L, M, N, O, P = 16, Q, R, S, T, U");
+    held_to("A, B, C, D, E, F, G, H, I, J, K, L, M, N, O, P = 16, Q, R, S, T, U, V");
     for wrong in [
         "A, B, C, D, E, F, G, H, I, J, K, L, M, N, O, P, Q",
-        "A, B, C, D, E, F, G, H, I, J, K, L, M, N, O, P = 16, Q, R, S, T, U, V",
+        "A, B, C, D, E, F, G, H, I, J, K, L, M, N, O, P = 16, Q, R, S, T, U, V, W",
         "A = 19, B = 19",
     ] {
         assert!(std::panic::catch_unwind(|| held_to(wrong)).is_err(), "{wrong}");

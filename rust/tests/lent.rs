@@ -50,8 +50,10 @@ fn behind_the_results() {
     assert_eq!((easts, norths), ([256, STAYS, STAYS], [-1, STAYS]));
 
     let mut record = [7; 15];
-    write_record(&[256], &[-1], &mut record).unwrap();
+    write_record(Version::One, &[256], &[-1], &mut record).unwrap();
     assert_eq!(record, [1, 0, 0, 0, 8, 0, 0, 1, 0, 255, 255, 255, 255, 7, 7]);
+    write_record(Version::Two(Sense::ComingFrom), &[256], &[-1], &mut record).unwrap();
+    assert_eq!(record, [2, 0, 0, 0, 9, 1, 255, 255, 255, 0, 0, 0, 0, 1, 7]);
 }
 
 #[test]
@@ -111,9 +113,12 @@ fn everything_after_other_refusals() {
     assert_eq!(turn_about(&EAST, &NORTH, &mut easts, &mut norths).unwrap_err().number, 9);
     assert_eq!(readings(&[0.0, 0.5], &[0.0, 0.0], &mut easts, &mut norths).unwrap_err().number, 14);
     assert_eq!(read_record(&[0], &mut easts, &mut norths).unwrap_err().number, 16);
+    assert_eq!(read_record(&[2, 0, 0, 0, 9, 2, 0, 0, 0, 1, 0, 0, 0, 1], &mut easts, &mut norths).unwrap_err().number, 22);
     let mut record = [7; 12];
-    assert_eq!(write_record(&[256], &[-1], &mut record).unwrap_err().number, 5);
-    assert_eq!(write_record(&EAST, &NORTH, &mut record).unwrap_err().number, 9);
+    for version in Version::ALL {
+        assert_eq!(write_record(version, &[256], &[-1], &mut record).unwrap_err().number, 5);
+        assert_eq!(write_record(version, &EAST, &NORTH, &mut record).unwrap_err().number, 9);
+    }
     assert_eq!(record, [7; 12]);
     assert_eq!(scratch, noise());
     assert_eq!((upper, lower), ([NOISE; 7], [NOISE; 7]));

@@ -90,11 +90,22 @@ fn corners(envelope: Result<Envelope, Refusal>) -> slices::Ring {
     envelope.map(|e| e.corners().collect())
 }
 
-fn record(streams: Streams<'_>) -> Vec<u8> {
-    let mut bytes = vec![1];
-    bytes.extend((8 * streams.len() as u32).to_be_bytes());
-    streams.for_each(|(east, north)| bytes.extend([east.to_be_bytes(), north.to_be_bytes()].concat()));
-    bytes
+/// The record that stores streams as they are.
+fn record(version: Version, streams: Streams<'_>) -> Vec<u8> {
+    let mut rest = match version {
+        Version::One => vec![],
+        Version::Two(sense) => vec![sense as u8],
+    };
+    streams.for_each(|(east, north)| rest.extend([east.to_be_bytes(), north.to_be_bytes()].concat()));
+    [&[version.number()][..], &(rest.len() as u32).to_be_bytes(), &rest].concat()
+}
+
+/// The ring that means the same in the other sense.
+fn in_sense(version: Version, envelope: &Envelope) -> Envelope {
+    match version.sense() {
+        Sense::GoingTo => envelope.clone(),
+        Sense::ComingFrom => envelope.turned(),
+    }
 }
 
 #[test]
@@ -137,18 +148,22 @@ fn as_the_slices_answer() {
         assert_eq!(samples.bridge(over), bridge(samples.easts(), samples.norths(), over, &mut Scratch::of(samples.len())));
         assert_eq!(corners(samples.envelope()), slices::envelope(&samples));
         assert_eq!(samples.envelope(), Envelope::of(samples.easts(), samples.norths()));
-        let bytes = record(samples.iter());
+        let version = Version::ALL[turn % Version::ALL.len()];
+        let bytes = record(version, samples.iter());
         assert_eq!(corners(Envelope::read(&bytes)), slices::read(&bytes));
-        assert_eq!(Envelope::from_ring(samples.easts().to_vec(), samples.norths().to_vec()), Envelope::read(&bytes));
+        let ring = Envelope::from_ring(samples.easts().to_vec(), samples.norths().to_vec());
+        assert_eq!(ring.map(|ring| in_sense(version, &ring)), Envelope::read(&bytes));
 
         let Ok(envelope) = samples.envelope() else {
             refused += 1;
             continue;
         };
-        let bytes = record(envelope.corners());
-        assert_eq!(corners(Envelope::read(&bytes)), slices::read(&bytes));
-        assert_eq!(Envelope::read(&bytes).as_ref(), Ok(&envelope));
-        assert_eq!(envelope.record(), bytes);
+        for version in Version::ALL {
+            let bytes = record(version, in_sense(version, &envelope).corners());
+            assert_eq!(corners(Envelope::read(&bytes)), slices::read(&bytes));
+            assert_eq!(Envelope::read(&bytes).as_ref(), Ok(&envelope));
+            assert_eq!(envelope.record(version), bytes);
+        }
         let (x, y) = (some.part(size), some.part(size));
         assert_eq!(envelope.strongest(x, y), strongest(envelope.easts(), envelope.norths(), x, y));
         assert_eq!(envelope.covers(x, y), cover(envelope.easts(), envelope.norths(), x, y));
@@ -294,7 +309,9 @@ fn collected_and_compared() {
     assert_eq!((Envelope::default(), Envelope::empty().len(), Envelope::empty().is_empty()), (Envelope::empty(), 0, true));
     assert_eq!(Samples::new().envelope(), Ok(Envelope::empty()));
     assert_eq!(Envelope::read(&[1, 0, 0, 0, 0]), Ok(Envelope::empty()));
-    assert_eq!(Envelope::empty().record(), [1, 0, 0, 0, 0]);
+    assert_eq!(Envelope::empty().record(Version::One), [1, 0, 0, 0, 0]);
+    assert_eq!(Envelope::empty().record(Version::Two(Sense::GoingTo)), [2, 0, 0, 0, 1, 0]);
+    assert_eq!(Envelope::empty().record(Version::Two(Sense::ComingFrom)), [2, 0, 0, 0, 1, 1]);
 
     // in whatever order the samples come there is one envelope
     let mut turned = A;
@@ -352,7 +369,7 @@ fn rings_refused() {
     for (easts, norths) in rings {
         assert_eq!(Envelope::from_ring(easts.to_vec(), norths.to_vec()), no(9, 0));
         let samples: Samples = easts.into_iter().zip(norths).collect();
-        assert_eq!(Envelope::read(&record(samples.iter())), no(9, 0));
+        Version::ALL.into_iter().for_each(|version| assert_eq!(Envelope::read(&record(version, samples.iter())), no(9, 0)));
     }
     assert_eq!(Envelope::from_ring(vec![0], vec![]), no(1, 0));
     assert_eq!(Envelope::from_ring(vec![0; MOST + 1], vec![0; MOST + 1]), no(2, 0));
@@ -360,13 +377,17 @@ fn rings_refused() {
     assert_eq!(Envelope::from_ring(vec![], vec![]), Ok(Envelope::empty()));
 
     assert_eq!(Envelope::read(&[]), no(17, 0));
-    assert_eq!(Envelope::read(&[2]), no(16, 0));
+    assert_eq!(Envelope::read(&[3]), no(16, 0));
     assert_eq!(Envelope::read(&[1, 0, 0, 0, 8, 0, 0, 0]), no(17, 8));
     assert_eq!(Envelope::read(&[1, 0, 0, 0, 0, 0, 0, 0]), no(20, 5));
     assert_eq!(Envelope::read(&[1, 0, 0, 0, 3, 0, 0, 0]), no(21, 1));
-    assert_eq!(Envelope::read(&record(Samples::from_iter([(LIMIT + 1, 0)]).iter())), no(3, 0));
+    assert_eq!(Envelope::read(&[2, 0, 0, 0, 1, 2]), no(22, 5));
+    let far = Samples::from_iter([(0, 0), (LIMIT + 1, 0)]);
     let many: Samples = (0..=MOST).map(|_| (0, 0)).collect();
-    assert_eq!(Envelope::read(&record(many.iter())), no(2, 0));
+    for version in Version::ALL {
+        assert_eq!(Envelope::read(&record(version, far.iter())), no(3, 1));
+        assert_eq!(Envelope::read(&record(version, many.iter())), no(2, 0));
+    }
 }
 
 #[test]
@@ -419,6 +440,8 @@ fn two_envelopes_of_too_many_corners() {
     assert_eq!(large.join(&Envelope::empty()).as_ref(), Ok(&large));
     assert_eq!(large.turned().turned(), large);
     assert_eq!(large.edges().last(), Some(Edge { from: large.len() - 1, to: 0 }));
-    assert_eq!(large.record(), record(large.corners()));
-    assert_eq!(Envelope::read(&large.record()).as_ref(), Ok(&large));
+    for version in Version::ALL {
+        assert_eq!(large.record(version), record(version, in_sense(version, &large).corners()));
+        assert_eq!(Envelope::read(&large.record(version)).as_ref(), Ok(&large));
+    }
 }

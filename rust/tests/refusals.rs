@@ -35,7 +35,7 @@ fn no_1_lists_of_different_length() {
     assert_eq!(join(&[0], &[0], &[0], &[], &mut r.first, &mut r.second, &mut r.scratch), no(1, 0));
     assert_eq!(sum(&[0], &[0], &[0], &[], &mut r.first, &mut r.second, &mut r.scratch), no(1, 0));
     assert_eq!(readings(&[0.0], &[], &mut r.first, &mut r.second), door(1, 0, None));
-    assert_eq!(write_record(&[0, LIMIT + 1], &[0], &mut []), no(1, 0));
+    Version::ALL.into_iter().for_each(|version| assert_eq!(write_record(version, &[0, LIMIT + 1], &[0], &mut []), no(1, 0)));
 }
 
 #[test]
@@ -58,7 +58,7 @@ fn no_2_too_many() {
     record[0] = 1;
     record[1..5].copy_from_slice(&(8 * (MOST as u32 + 1)).to_be_bytes());
     assert_eq!(read_record(&record, &mut r.first, &mut r.second), no(2, 0));
-    assert_eq!(write_record(&many, &many, &mut record), no(2, 0));
+    Version::ALL.into_iter().for_each(|version| assert_eq!(write_record(version, &many, &many, &mut record), no(2, 0)));
 }
 
 #[test]
@@ -77,7 +77,7 @@ fn no_3_a_part_beyond_the_limit() {
     assert_eq!(sum(&[0], &[0], &beyond, &[0, 0], &mut r.first, &mut r.second, &mut r.scratch), no(3, 1));
     let record = [1, 0, 0, 0, 8, 127, 255, 255, 255, 0, 0, 0, 0];
     assert_eq!(read_record(&record, &mut r.first, &mut r.second), no(3, 0));
-    assert_eq!(write_record(&beyond, &[0, 0], &mut []), no(3, 1));
+    Version::ALL.into_iter().for_each(|version| assert_eq!(write_record(version, &beyond, &[0, 0], &mut []), no(3, 1)));
 }
 
 #[test]
@@ -106,8 +106,10 @@ fn no_5_an_output_too_short() {
     assert_eq!(sum(&east, &north, &[5], &[0], &mut r.first, &mut r.second[..2], &mut r.scratch), no(5, 0));
     assert_eq!(readings(&[0.0], &[0.0], &mut [], &mut r.second), door(5, 0, None));
     assert_eq!(read_record(&[1, 0, 0, 0, 8, 0, 0, 0, 0, 0, 0, 0, 0], &mut r.first, &mut []), no(5, 0));
-    assert_eq!(write_record(&east, &north, &mut [0; 28]), no(5, 0));
-    assert_eq!(write_record(&[], &[], &mut [0; 4]), no(5, 0));
+    for (version, enough) in Version::ALL.into_iter().zip([5, 6, 6]) {
+        assert_eq!(write_record(version, &east, &north, &mut vec![0; enough + 23]), no(5, 0));
+        assert_eq!(write_record(version, &[], &[], &mut vec![0; enough - 1]), no(5, 0));
+    }
 }
 
 #[test]
@@ -147,10 +149,15 @@ fn no_9_not_an_envelope() {
         assert_eq!(join(&[], &[], east, north, &mut r.first, &mut r.second, &mut r.scratch), no(9, 0));
         assert_eq!(sum(east, north, &[], &[], &mut r.first, &mut r.second, &mut r.scratch), no(9, 0));
         assert_eq!(sum(&[], &[], east, north, &mut r.first, &mut r.second, &mut r.scratch), no(9, 0));
-        assert_eq!(write_record(east, north, &mut []), no(9, 0));
+        Version::ALL.into_iter().for_each(|version| assert_eq!(write_record(version, east, north, &mut []), no(9, 0)));
     }
     let record = [1, 0, 0, 0, 16, 0, 0, 0, 4, 0, 0, 0, 0, 0, 0, 0, 0, 0, 0, 0, 0];
     assert_eq!(read_record(&record, &mut r.first, &mut r.second), no(9, 0));
+    // as it is stored, though turned about it would be one
+    for sense in [0, 1] {
+        let told = [&[2, 0, 0, 0, 17, sense], &record[5..]].concat();
+        assert_eq!(read_record(&told, &mut r.first, &mut r.second), no(9, 0));
+    }
 }
 
 #[test]
@@ -214,7 +221,8 @@ fn no_16_17_20_21_bytes_that_are_no_record() {
     let mut r = room();
     let mut read = |bytes: &[u8]| read_record(bytes, &mut r.first, &mut r.second);
     assert_eq!(read(&[]), no(17, 0));
-    assert_eq!(read(&[2]), no(16, 0));
+    assert_eq!(read(&[0]), no(16, 0));
+    assert_eq!(read(&[3]), no(16, 0));
     assert_eq!(read(&[1, 0, 0]), no(17, 3));
     assert_eq!(read(&[1, 0, 0, 0]), no(17, 4));
     // the bytes end early, or bytes follow the end
@@ -235,6 +243,30 @@ fn no_16_17_20_21_bytes_that_are_no_record() {
 }
 
 #[test]
+fn no_21_and_22_records_that_say_no_sense() {
+    let mut r = room();
+    let mut read = |bytes: &[u8]| read_record(bytes, &mut r.first, &mut r.second);
+    // one more than a multiple of 8, the sense among it
+    assert_eq!(read(&[2, 0, 0, 0, 0]), no(21, 1));
+    assert_eq!(read(&[2, 0, 0, 0, 8, 0, 0, 0, 0, 7, 0, 0, 0]), no(21, 1));
+    assert_eq!(read(&[2, 255, 255, 255, 248, 0]), no(21, 1));
+    assert_eq!(read(&[2, 255, 255, 255, 249, 0]), no(17, 6));
+    assert_eq!(read(&[2, 0, 0, 0, 1]), no(17, 5));
+    // a sense above 1, after 17 and 20, before 3 and 9
+    for sense in 2..=255 {
+        assert_eq!(read(&[2, 0, 0, 0, 1, sense]), no(22, 5));
+        assert_eq!(read(&[2, 0, 0, 0, 9, sense]), no(17, 6));
+        assert_eq!(read(&[2, 0, 0, 0, 1, sense, 0]), no(20, 6));
+        assert_eq!(read(&[2, 0, 0, 0, 9, sense, 127, 0, 0, 0, 0, 0, 0, 0]), no(22, 5));
+        assert_eq!(read(&[2, 0, 0, 0, 17, sense, 0, 0, 0, 1, 0, 0, 0, 0, 0, 0, 0, 0, 0, 0, 0, 0]), no(22, 5));
+    }
+    // the place of 3 is that of the corner as it is stored
+    for sense in [0, 1] {
+        assert_eq!(read(&[2, 0, 0, 0, 17, sense, 0, 0, 0, 0, 0, 0, 0, 0, 127, 0, 0, 0, 0, 0, 0, 0]), no(3, 1));
+    }
+}
+
+#[test]
 fn in_words() {
     let refusal = Hand::made_for(0).unwrap_err();
     assert_eq!(refusal.to_string(), "refused 10 0: an empty ring, or a hand whose place is not below its count");
@@ -244,9 +276,14 @@ fn in_words() {
     let mut told = |bytes: &[u8]| read_record(bytes, &mut r.first, &mut r.second).unwrap_err().to_string();
     assert_eq!(told(&[1, 0, 0, 0, 8, 0]), "refused 17 6: the record's bytes end early: those from this place on are missing");
     assert_eq!(told(&[1, 0, 0, 0, 0, 10]), "refused 20 5: bytes follow the record's end: those from this place on are not its own");
-    assert_eq!(told(&[1, 0, 0, 0, 9, 0]), "refused 21 1: the record's length is not a multiple of 8: it counts no whole corners");
+    assert_eq!(
+        told(&[1, 0, 0, 0, 9, 0]),
+        "refused 21 1: the record's length counts no whole corners: it is to be a multiple of 8, in version 2 one more"
+    );
+    assert_eq!(told(&[2, 0, 0, 0, 1, 2]), "refused 22 5: the record's sense is above 1: 0 is going to, 1 is coming from");
+    assert_eq!(told(&[3]), "refused 16 0: a version other than 1 or 2");
     assert_eq!(Refusal::from(part(f64::NAN).unwrap_err()), Refusal { number: 12, place: 0 });
-    for number in (1..=21).filter(|number| *number != 15) {
+    for number in (1..=22).filter(|number| *number != 15) {
         assert_ne!(Refusal { number, place: 0 }.words(), "no number of the rules");
     }
 }

@@ -147,8 +147,33 @@ fn records() {
     assert_eq!(read_record(&record, &mut easts, &mut norths), Ok(2));
     assert_eq!((easts, norths), ([-2, 3], [5, 0]));
     let mut again = [9; 22];
-    assert_eq!(write_record(&easts, &norths, &mut again), Ok(21));
+    assert_eq!(write_record(Version::One, &easts, &norths, &mut again), Ok(21));
     assert_eq!((&again[..21], again[21]), (&record[..], 9));
+}
+
+#[test]
+fn records_in_either_sense() {
+    let (mut easts, mut norths) = ([9; 2], [9; 2]);
+    // (7, -7)
+    let mut record = [2, 0, 0, 0, 9, 0, 0, 0, 0, 7, 255, 255, 255, 249];
+    assert_eq!(read_record(&record, &mut easts, &mut norths), Ok(1));
+    assert_eq!((easts, norths), ([7, 9], [-7, 9]));
+    record[5] = 1;
+    assert_eq!(read_record(&record, &mut easts, &mut norths), Ok(1));
+    assert_eq!((easts, norths), ([-7, 9], [7, 9]));
+    // (0, 0) and (1, 2), coming from; going to they begin at the other end
+    let from = [2, 0, 0, 0, 17, 1, 0, 0, 0, 0, 0, 0, 0, 0, 0, 0, 0, 1, 0, 0, 0, 2];
+    let to = [2, 0, 0, 0, 17, 0, 255, 255, 255, 255, 255, 255, 255, 254, 0, 0, 0, 0, 0, 0, 0, 0];
+    for (record, sense) in [(from, Sense::ComingFrom), (to, Sense::GoingTo)] {
+        assert_eq!(read_record(&record, &mut easts, &mut norths), Ok(2));
+        assert_eq!((easts, norths), ([-1, 0], [-2, 0]));
+        let mut again = [9; 22];
+        assert_eq!(write_record(Version::Two(sense), &easts, &norths, &mut again), Ok(22));
+        assert_eq!(again, record);
+    }
+    // the empty ring in either sense
+    assert_eq!(read_record(&[2, 0, 0, 0, 1, 0], &mut [], &mut []), Ok(0));
+    assert_eq!(read_record(&[2, 0, 0, 0, 1, 1], &mut [], &mut []), Ok(0));
 }
 
 #[test]
@@ -160,5 +185,6 @@ fn nothing_at_all() {
     assert_eq!(turn_about(&[], &[], &mut [], &mut []), Ok(0));
     assert_eq!(cover(&[], &[], 0, 0), Ok(false));
     assert_eq!(readings(&[], &[], &mut [], &mut []), Ok(0));
-    assert_eq!(write_record(&[], &[], &mut [0; 5]), Ok(5));
+    assert_eq!(write_record(Version::One, &[], &[], &mut [0; 5]), Ok(5));
+    assert_eq!(write_record(Version::Two(Sense::ComingFrom), &[], &[], &mut [0; 6]), Ok(6));
 }
