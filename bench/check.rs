@@ -2,6 +2,7 @@
 
 use crate::inputs::{Chance, Sheet, SHEETS};
 use crate::peers::{corners, peers, sum_peers};
+use crate::writing::Form;
 use crate::{adding, andrew, literal, picking, same, writing};
 
 pub fn check() {
@@ -25,7 +26,8 @@ fn pickers() {
     println!("the plain picker agrees with a sort on 20,000 lists");
 }
 
-/// The plain writer takes the ring of a sheet, and the sheet itself exactly if it is its own ring.
+/// The plain writer takes the ring of a sheet, and the sheet itself exactly if it is its own ring. Coming from, it writes what it writes going to of the ring of the
+/// sheet with both signs changed.
 fn writers() {
     let mut chance = Chance::new(4);
     for _ in 0..20_000 {
@@ -35,10 +37,21 @@ fn writers() {
             sheet.push(chance.between(-reach, reach) as f64, chance.between(-reach, reach) as f64);
         }
         let ring = writing::ring(&sheet);
-        let write = |sheet: &Sheet| writing::write(sheet, &mut vec![0; writing::size(sheet.len())]);
         let own = (&ring.east, &ring.north) == (&sheet.east, &sheet.north);
-        same("the plain writer on a ring", write(&ring), Ok(writing::size(ring.len())));
-        same("the plain writer on samples", write(&sheet), if own { Ok(writing::size(sheet.len())) } else { Err(9) });
+        for (_, form) in writing::FORMS {
+            let write = |sheet: &Sheet| writing::write(form, sheet, &mut vec![0; form.size(sheet.len())]);
+            same("the plain writer on a ring", write(&ring), Ok(form.size(ring.len())));
+            same("the plain writer on samples", write(&sheet), if own { Ok(form.size(sheet.len())) } else { Err(9) });
+        }
+        let mut about = Sheet::default();
+        (0..sheet.len() as u32).map(|number| sheet.position(number)).for_each(|(east, north)| about.push(-east as f64, -north as f64));
+        let written = |sense, ring: &Sheet| {
+            let form = Form { version: 2, sense };
+            let mut out = vec![sense; form.size(ring.len())];
+            writing::bytes(form, ring, &mut out);
+            out
+        };
+        same("the plain writer, coming from", &written(1, &ring)[6..], &written(0, &writing::ring(&about))[6..]);
     }
     println!("the plain writer takes rings alone, on 20,000 sheets");
 }

@@ -162,6 +162,7 @@ pub use both_chains::{chains, Room};
 #[cfg(has_library)]
 mod counted {
     use crate::inputs::Sheet;
+    use crate::writing::Form;
 
     #[repr(C)]
     struct Counted {
@@ -205,6 +206,8 @@ mod counted {
 
         fn nuoskelma_write_record(
             answer: *mut Counted,
+            version: u8,
+            sense: u8,
             east: *const i32,
             east_len: usize,
             north: *const i32,
@@ -275,11 +278,23 @@ mod counted {
     }
 
     /// How many bytes of a ring's record stand at the front of the output, or the refusal's number.
-    pub fn write_record(ring: &Sheet, out: &mut [u8]) -> Result<usize, u32> {
+    pub fn write_record(form: Form, ring: &Sheet, out: &mut [u8]) -> Result<usize, u32> {
         let mut answer = Counted::NONE;
         let (east, north) = (&ring.east, &ring.north);
         // as for pick
-        unsafe { nuoskelma_write_record(&mut answer, east.as_ptr(), east.len(), north.as_ptr(), north.len(), out.as_mut_ptr(), out.len()) };
+        unsafe {
+            nuoskelma_write_record(
+                &mut answer,
+                form.version,
+                form.sense,
+                east.as_ptr(),
+                east.len(),
+                north.as_ptr(),
+                north.len(),
+                out.as_mut_ptr(),
+                out.len(),
+            )
+        };
         answer.told()
     }
 }

@@ -8,10 +8,31 @@ pub const LIMIT: i32 = 1_000_000;
 const HEAD: usize = 5;
 const CORNER: usize = 8;
 
-/// How many bytes a record of so many corners has.
-pub fn size(corners: usize) -> usize {
-    HEAD + CORNER * corners
+/// A record's version, and its sense: 0 going to, 1 coming from.
+#[derive(Clone, Copy)]
+pub struct Form {
+    pub version: u8,
+    pub sense: u8,
 }
+
+impl Form {
+    /// Where the corners start.
+    fn start(self) -> usize {
+        if self.version == 2 {
+            HEAD + 1
+        } else {
+            HEAD
+        }
+    }
+
+    /// How many bytes a record of so many corners has.
+    pub fn size(self, corners: usize) -> usize {
+        self.start() + CORNER * corners
+    }
+}
+
+/// The forms that are timed.
+pub const FORMS: [(&str, Form); 2] = [("version 1", Form { version: 1, sense: 0 }), ("coming from", Form { version: 2, sense: 1 })];
 
 /// The ring of samples, by Andrew's chains: the upper one, then the lower one from right to left without an end that both have.
 pub fn ring(sheet: &Sheet) -> Sheet {
@@ -26,13 +47,29 @@ pub fn ring(sheet: &Sheet) -> Sheet {
     ring
 }
 
-/// The bytes of a ring that has passed its tests.
-pub fn bytes(ring: &Sheet, out: &mut [u8]) {
-    out[0] = 1;
-    out[1..HEAD].copy_from_slice(&((CORNER * ring.len()) as u32).to_be_bytes());
-    for ((east, north), place) in ring.east.iter().zip(&ring.north).zip(out[HEAD..].chunks_exact_mut(CORNER)) {
-        place[..4].copy_from_slice(&east.to_be_bytes());
-        place[4..].copy_from_slice(&north.to_be_bytes());
+/// The corners one after another, in one sign or the other.
+fn put(east: &[i32], north: &[i32], sign: i32, out: &mut [u8]) {
+    for ((east, north), place) in east.iter().zip(north).zip(out.chunks_exact_mut(CORNER)) {
+        place[..4].copy_from_slice(&(sign * east).to_be_bytes());
+        place[4..].copy_from_slice(&(sign * north).to_be_bytes());
+    }
+}
+
+/// The bytes of a ring that has passed its tests. Coming from, both signs are changed, and the corner farthest east, of those the farthest south, is the first.
+pub fn bytes(form: Form, ring: &Sheet, out: &mut [u8]) {
+    let n = ring.len();
+    out[0] = form.version;
+    out[1..HEAD].copy_from_slice(&((form.size(n) - HEAD) as u32).to_be_bytes());
+    if form.version == 2 {
+        out[HEAD] = form.sense;
+    }
+    let out = &mut out[form.start()..];
+    if form.sense == 1 {
+        let first = (0..n).max_by_key(|&place| (ring.east[place], -ring.north[place])).unwrap_or(0);
+        put(&ring.east[first..], &ring.north[first..], -1, out);
+        put(&ring.east[..first], &ring.north[..first], -1, &mut out[CORNER * (n - first)..]);
+    } else {
+        put(&ring.east, &ring.north, 1, out);
     }
 }
 
@@ -55,13 +92,20 @@ pub fn tested(ring: &Sheet) -> Result<(), u32> {
 }
 
 /// How many bytes were written, or the refusal's number.
-pub fn write(ring: &Sheet, out: &mut [u8]) -> Result<usize, u32> {
+pub fn write(form: Form, ring: &Sheet, out: &mut [u8]) -> Result<usize, u32> {
+    if form.version != 1 && form.version != 2 {
+        return Err(16);
+    }
+    if form.sense > form.version - 1 {
+        return Err(22);
+    }
     tested(ring)?;
-    if out.len() < size(ring.len()) {
+    let size = form.size(ring.len());
+    if out.len() < size {
         return Err(5);
     }
-    bytes(ring, out);
-    Ok(size(ring.len()))
+    bytes(form, ring, out);
+    Ok(size)
 }
 
 type Position = (i32, i32);
