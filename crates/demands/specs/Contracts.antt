@@ -134,8 +134,9 @@ pub record Contracts : Type 1 where
       ≡ ((counted-as r ≡ counted answer)
       × ((now (s .1 .0) ≡ output-after easts answer (now (a .1 .0))) × (now (s .1 .1 .0) ≡ output-after norths answer (now (a .1 .1 .0)))))
   pub of-write-record : (κs : Lfts 3) (a : Dens κs write-kinds.ps) (r : Counted) (s : AtExit (endedOf 3 write-kinds.ps write-kinds.r) κs) →
-      let answer = write-answer (now (a .0)) (now (a .1 .0)) (now (a .1 .1 .0)) in
-      write-reads.Post κs a r s ≡ ((counted-as r ≡ counted answer) × (now (s .1 .1 .0) ≡ output-after (λ bs. bs) answer (now (a .1 .1 .0))))
+      let answer = write-answer (a .0) (a .1 .0) (now (a .1 .1 .0)) (now (a .1 .1 .1 .0)) (now (a .1 .1 .1 .1 .0)) in
+      write-reads.Post κs a r s
+      ≡ ((counted-as r ≡ counted answer) × (now (s .1 .1 .1 .1 .0) ≡ output-after (λ bs. bs) answer (now (a .1 .1 .1 .1 .0))))
   pub of-samples : (κs : Lfts 3) (a : Dens κs samples-kinds.ps) (r : Counted) (s : AtExit (endedOf 3 samples-kinds.ps samples-kinds.r) κs) →
       let answer = samples-answer (now (a .0)) (now (a .1 .0)) (now (a .1 .1 .0)) in
       samples-reads.Post κs a r s

@@ -1,9 +1,10 @@
 -- Trees of calls: rings of samples and records read, joined, added and turned about in any order, wherever no step is refused. The corners are those of the ring
 -- of all streams behind: of a join the streams behind both rings, of a sum every stream behind the one added to every stream behind the other, of a ring turned
--- about those behind it with both signs changed. So a tree may be rearranged anywhere and leaves the same lists: joins and sums in any order and grouping, repeats
+-- about, and of one read from a coming-from record, those behind it with both signs changed. So a tree may be rearranged anywhere and leaves the same lists: joins and sums in any order and grouping, repeats
 -- and empty envelopes joined; adding spreads over joining, and turning about over both. On every course the strongest set of a sum is the sum of the two strongest
 -- sets. A call is any that the entry's own promise allows. Assumes nothing.
-use mathlib.Core.Path.{_≡_, refl, sym, ap, ap₂, _∙_}
+use mathlib.Core.Path.{_≡_, refl, sym, ap, ap₂, _∙_, subst}
+use mathlib.Core.Bool.{cond}
 use mathlib.Core.Logic.{_↔_}
 use mathlib.Core.List.{List, [], _++_, map, map-append, append-nil, append-assoc, List·Memᴰ}
 use Prim.Native.Nat.{ℕ}
@@ -12,6 +13,7 @@ use lib.ListN.{length, take}
 use Rattle.rules.specs.Streams.{Stream, streams, turned}
 use Rattle.rules.specs.Ring.{ring}
 use Rattle.rules.specs.Use.{join, sums, sum, turn-about}
+use Rattle.rules.specs.Record.{coming-from, in-sense, sense, stored}
 use Rattle.rules.specs.Entries.{easts, norths}
 use Rattle.laws_outline.specs.ListLaws.{map-twice}
 use Rattle.laws_outline.specs.Sidedness.{turned-twice as stream-twice}
@@ -21,6 +23,7 @@ use Rattle.laws_rings.specs.FewestCorners.{no-samples}
 use Rattle.laws_rings.specs.Joins as joins
 use Rattle.laws_rings.specs.Turning.{turn-ring}
 use Rattle.laws_sums.specs.Sums as adds
+use Rattle.laws_records.specs.InSense.{sense-ring}
 use Rattle.samples.specs.Samples.{streams-easts, streams-norths}
 use Rattle.samples.specs.declared.answers.Counted.the-variants as counts
 use Rattle.envelope.specs.declared.strongest.StrongestSet.the-variants as said
@@ -33,19 +36,26 @@ use Rattle.demands.specs.Joined.{Joining, joining-done}
 use Rattle.demands.specs.Added.{Adding, adding-done}
 use Rattle.demands.specs.Strongest as strongest
 
--- a ring that comes of calls that are done, and all streams behind it: the ring of samples, a record that was read, two rings joined, two added, or one turned
--- about
+-- a ring that comes of calls that are done, and all streams behind it: the ring of samples, a record that was read, of whatever streams its corners are the ring, two
+-- rings joined, two added, or one turned about
 pub data Made : List Stream → List ℤ → List ℤ → Type 1 where
   ringed-by : (c : rings.Ringing) {n : ℕ} → c .answer ≡ counts.Count n
       → Made (rings.samples c) (take n (rings.east-after c)) (take n (rings.north-after c))
-  read-by : (c : records.Reading) {n : ℕ} → c .answer ≡ counts.Count n
-      → Made (records.corners c) (take n (records.east-after c)) (take n (records.north-after c))
+  read-by : (xs : List Stream) (c : records.Reading) {n : ℕ} → c .answer ≡ counts.Count n → stored (records.bytes c) ≡ ring xs
+      → Made (records.as-meant c xs) (take n (records.east-after c)) (take n (records.north-after c))
   joined-by : {xs ys : List Stream} (c : Joining) {n : ℕ} → c .answer ≡ counts.Count n → Made xs (east c) (north c) → Made ys (east2 c) (north2 c)
       → Made (xs ++ ys) (take n (east-after c)) (take n (north-after c))
   added-by : {xs ys : List Stream} (c : Adding) {n : ℕ} → c .answer ≡ counts.Count n → Made xs (east c) (north c) → Made ys (east2 c) (north2 c)
       → Made (sums xs ys) (take n (east-after c)) (take n (north-after c))
   turned-by : {xs : List Stream} (c : turns.Turning) {n : ℕ} → c .answer ≡ counts.Count n → Made xs (turns.east c) (turns.north c)
       → Made (map turned xs) (take n (turns.east-after c)) (take n (turns.north-after c))
+
+-- such streams are always the corners as stored
+pub read-stored : (c : records.Reading) {n : ℕ} → c .answer ≡ counts.Count n
+    → Made (records.as-meant c (stored (records.bytes c))) (take n (records.east-after c)) (take n (records.north-after c))
+read-stored c e =
+    let xs = stored (records.bytes c) in
+    read-by xs c e (sym (envelope-ring xs .0 (records.reading-done c e .ring-stored)))
 
 -- two lists that are the parts of a ring
 record Parts (r : List Stream) (es ns : List ℤ) : Type 0 where
@@ -65,7 +75,9 @@ parts-only {es} {ns} {fs} {ms} a b h =
 
 made : {xs : List Stream} {es ns : List ℤ} → Made xs es ns → Parts (ring xs) es ns
 made (ringed-by c e) = parts-of (rings.ringing-done c e .left) refl
-made (read-by c e) = let d = records.reading-done c e in parts-of (d .left) (sym (envelope-ring (records.corners c) .0 (d .ring-read)))
+made (read-by xs c e h) =
+    let s = sense (records.bytes c) in
+    parts-of (records.reading-done c e .left) (ap (in-sense s) h ∙ sense-ring s xs)
 made (joined-by {xs} {ys} c e a b) = parts-of (joining-done c e .left) (ap₂ join (made a .ring-is) (made b .ring-is) ∙ joins.join-rings xs ys)
 made (added-by {xs} {ys} c e a b) = parts-of (adding-done c e .left) (ap₂ sum (made a .ring-is) (made b .ring-is) ∙ adds.sum-rings xs ys)
 made (turned-by {xs} c e a) = parts-of (turns.turning-done c e .left) (ap turn-about (made a .ring-is) ∙ turn-ring xs)
@@ -78,6 +90,18 @@ made-ring m = made m .ring-is
 pub made-same : {xs ys : List Stream} {es ns fs ms : List ℤ} → Made xs es ns → Made ys fs ms → ((s : Stream) → List·Memᴰ s xs ↔ List·Memᴰ s ys)
     → (es ≡ fs) × (ns ≡ ms)
 made-same a b h = parts-only (made a) (made b) (ring-members (λ s. h s .0) (λ s. h s .1))
+
+-- THE LAW: a ring read from a coming-from record joins as the envelope of its streams turned about
+pub read-turned : (xs : List Stream) {ys : List Stream} (c : records.Reading) {n : ℕ} → c .answer ≡ counts.Count n → sense (records.bytes c) ≡ 1
+    → stored (records.bytes c) ≡ ring xs → (d : Joining) {m : ℕ} → d .answer ≡ counts.Count m → east d ≡ take n (records.east-after c)
+    → north d ≡ take n (records.north-after c) → Made ys (east2 d) (north2 d)
+    → streams (take m (east-after d)) (take m (north-after d)) ≡ ring (map turned xs ++ ys)
+read-turned xs c {n} e from h d f he hn b =
+    let es = take n (records.east-after c) in
+    let ns = take n (records.north-after c) in
+    let read = subst (λ (s : ℕ). Made (cond (coming-from s) (map turned xs) xs) es ns) from (read-by xs c e h) in
+    let given : Made (map turned xs) (east d) (north d) = rw (he, hn) read in
+    made-ring (joined-by d f given b)
 
 -- ---- trees rearranged
 

@@ -1,4 +1,5 @@
--- A ring in a sense: twice it is the ring again, and it stays an envelope, of as many corners, within the limit.
+-- A ring in a sense: twice it is the ring again; it stays an envelope, of as many corners, within the limit; and it is the envelope of the streams behind it as they
+-- are meant.
 -- Assumes nothing.
 use mathlib.Core.Path.{_≡_, refl, sym, ap₂, _∙_}
 use mathlib.Core.Bool.{Bool, true, false, cond, not, _&&_}
@@ -14,7 +15,7 @@ use Rattle.rules.specs.Record.{coming-from, in-sense}
 use Rattle.laws_outline.specs.ListLaws.{none-of-is, is-none-of, map-in}
 use Rattle.laws_outline.specs.Sidedness.{turned-twice}
 use Rattle.laws_rings.specs.Rings.{ring-sample}
-use Rattle.laws_rings.specs.Turning.{turn-envelope, turn-twice}
+use Rattle.laws_rings.specs.Turning.{turn-ring, turn-envelope, turn-twice}
 use Rattle.laws_rings.specs.Cycle.{turned-length}
 
 -- a part is within the limit with either sign
@@ -61,3 +62,12 @@ module _ (s : ℕ) (r : List Stream) where
         go : (b : Bool) → cond b (turn-about (cond b (turn-about r) r)) (cond b (turn-about r) r) ≡ r
         go true = turn-twice r is
         go false = refl
+
+-- the ring of streams, in a sense, is the ring of the streams with both signs changed where that is coming from
+pub sense-ring : (s : ℕ) (xs : List Stream) → in-sense s (ring xs) ≡ ring (cond (coming-from s) (map turned xs) xs)
+unfolding in-sense
+sense-ring s xs = go (coming-from s)
+  where
+    go : (b : Bool) → cond b (turn-about (ring xs)) (ring xs) ≡ ring (cond b (map turned xs) xs)
+    go true = turn-ring xs
+    go false = refl

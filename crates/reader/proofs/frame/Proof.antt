@@ -55,11 +55,15 @@ none-3 c = let n = none-2 (c .before) in (n .0, (n .1 .0, (le-ltb (length (bytes
 said : (c : tie.After-sense-size) → said-length (bytes c) ≡ c .before .before .word .result
 said c = sym (c .before .before .word .ensures)
 
+-- past the test for 21
+multiple : (c : tie.Else4) → let s = c .before in s .before .before .word .result % corner-size ≡ s .sense-size .result
+multiple c = c .if4 .left
+
 none-4 : (c : tie.Else4) → None-hold (take 4 (frame-tests (bytes (c .before))))
 none-4 c =
     let s = c .before in
     let n = none-3 (past-head s) in
-    let whole : said-length (bytes s) % corner-size ≡ sense-size (version (bytes s)) = ap (λ (w : ℕ). w % corner-size) (said s) ∙ c .if4 .left ∙ s .sense-size .ensures in
+    let whole = ap (λ (w : ℕ). w % corner-size) (said s) ∙ multiple c ∙ s .sense-size .ensures in
     (n .0, (n .1 .0, (n .1 .1 .0, (ap not (eq-eqb (said-length (bytes s) % corner-size) (sense-size (version (bytes s))) whole), tt))))
 
 -- where the bytes and what is said of them end
@@ -86,7 +90,7 @@ sense-requires : tie.Need-sense-requires
 sense-requires c κs =
     let s = c .before .before .before in
     let e = ends s in
-    let whole : c .before .before .before .before .before .word .result % 8 ≡ sense-size (version (bytes s)) = c .before .before .if4 .left ∙ s .sense-size .ensures in
+    let whole = multiple (c .before .before) ∙ s .sense-size .ensures in
     omega (arith, e .0, e .1, c .before .if5 .left, c .if6 .left)
 
 -- ---- the returns
