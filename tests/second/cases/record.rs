@@ -126,16 +126,16 @@ fn damaged(desk: &mut Desk, chance: &mut Chance, bytes: &[u8]) {
     }
 }
 
-/// Heads over the corners of a ring, in every version and sense: every length from 0 to 48 said of every number of bytes; lengths around each power of two and up to
-/// the greatest; every version; every byte for the sense of no corner, one, two and five, cut and extended at every length. Where nothing is wrong with the head, the
-/// corners are an envelope.
+/// Heads over the corners of a ring, in every version and sense and in none: every length from 0 to 48 said of every number of bytes; lengths around each power of two
+/// and up to the greatest; every version; every byte for the sense of no corner, one, two and five, cut and extended at every length. Where nothing is wrong with the
+/// head, the corners are an envelope.
 pub fn frames(mut put: impl FnMut(&'static str, Vec<u8>)) {
     let corners = [at(0, 0), at(1, 3), at(2, 4), at(3, 3), at(4, 0)];
     let said = |form: Form, length: u32, given: usize| {
         let whole = record_of(form, &corners);
         [&whole[..1], &length.to_be_bytes(), &whole[HEAD..]].concat()[..given].to_vec()
     };
-    for form in FORMS {
+    for form in FORMS.into_iter().chain([Form { version: 2, sense: 2 }]) {
         for given in 0..=record_of(form, &corners).len() {
             for length in 0..=48 {
                 put("every length of every number of bytes", said(form, length, given));
