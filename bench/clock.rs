@@ -93,6 +93,6 @@ impl Table {
     pub fn line(&self, name: &str, cells: &[String]) {
         let wide = |head: &String| head.chars().count().max(7);
         let cells: Vec<String> = self.heads.iter().zip(cells).map(|(head, cell)| format!("{cell:>0$}", wide(head))).collect();
-        println!("{name:<10}  {}", cells.join("  "));
+        println!("{name:<11}  {}", cells.join("  "));
     }
 }
