@@ -9,12 +9,12 @@ use lib.Dec.{T, ltb, ltb→lt}
 use lib.IntN.{ℤ, pos, negsuc, natAbs}
 use lib.Signed.{mag, nonNeg, _≤ℤ_}
 use mir.Syntax.{w32, w64}
-use mir.Val.{Fits, toZ, ofZ}
+use mir.Val.{Fits, SFits, toZ, ofZ}
 use mir.Facts.{toZ-ofZ}
 use Rattle.whole.specs.Solver.{Ex, var, num, _⊖_, _⊗_, eval}
 use Rattle.whole.specs.Fits.{Within, Leaves, Bounded, []ʷ, _∷ʷ_, _∷ᶜ_, read, read-within, value-within, bound, safe, word, word-is, word-within}
 use Rattle.rules.specs.Streams.{Stream}
-use Rattle.rules.specs.Round.{Slope}
+use Rattle.rules.specs.Round.{Slope, height}
 use Rattle.slopes.specs.Fractions as fractions
 use Rattle.samples.specs.Positions.{Near}
 use Rattle.samples.specs.StreamWords.{held}
@@ -44,6 +44,26 @@ scaled-near h =
       rise-near = word-within w64 (slope-leaf (h .rise-near)) times tt;
       run-near = word-within w64 (slope-leaf (h .run-near)) times tt;
     }
+
+-- rise and run, each handed on as a word
+pub handed : {a b : ℤ} → SFits w64 a → SFits w64 b → slope-by (read w64 a) (read w64 b) ≡ slope-by a b
+handed h k = ap₂ slope-by (toZ-ofZ h) (toZ-ofZ k)
+
+-- a scaled run and rise, and a position's north and east, each read from a word of 32 bits
+pub height-leaves : {p : Stream} {k : Slope} → Near p × Scaled k
+    → Leaves
+    (k .run ∷ read w32 (p .north) ∷ k .rise ∷ read w32 (p .east) ∷ [])
+    (k .run ∷ p .north ∷ k .rise ∷ p .east ∷ [])
+    (4000002000000 ∷ 1000000 ∷ 4000002000000 ∷ 1000000 ∷ [])
+height-leaves (h, k) = k .run-near ∷ʷ held (h .north-near) ∷ᶜ k .rise-near ∷ʷ held (h .east-near) ∷ᶜ []ʷ
+
+-- the height
+abbrev pub high : Ex
+high = var 0 ⊗ var 1 ⊖ var 2 ⊗ var 3
+
+pub height-near : {p : Stream} {k : Slope} → Near p × Scaled k → Within (height k p) 8000004000000000000
+unfolding height
+height-near h = value-within (height-leaves h) high
 
 -- two positions: the east and the north of the first, and those of the second
 abbrev pub parts : Stream → Stream → List ℤ

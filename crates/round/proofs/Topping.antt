@@ -1,29 +1,30 @@
 -- Keys by which the tops are found, and the sample with the greatest key of the first i of a list, as a loop carries it: at the start, one sample more, at the
--- end.
+-- end; samples passed by their heights.
 -- Assumes nothing.
-use mathlib.Core.Path.{_≡_, refl, sym, ap, ap₂, _∙_, subst, fun-ext}
+use mathlib.Core.Path.{_≡_, refl, sym, ap, ap₂, _∙_, subst, subst₂, fun-ext}
 use mathlib.Core.Bool.{Bool, true, false, cond, _||_, _&&_}
 use mathlib.Core.Logic.{⊎-elim}
 use mathlib.Core.List.{List, [], _∷_, List·Memᴰ}
-use Prim.Native.Nat.{ℕ, _+_, _*_, _≤_, _<_}
+use Prim.Native.Nat.{ℕ, zero, suc, _+_, _*_, _≤_, _<_}
+use native.Mathlib.Nat.{add-zero}
 use native.Mathlib.Numerals.{add-one}
 use native.Mathlib.Omega.{arith}
 use lib.IntN.{ℤ, pos, negℤ, _+ℤ_, _*ℤ_}
-use lib.Signed.{ltZ}
+use lib.Signed.{_≤ℤ_, _<ℤ_, ltZ, ≤ℤ-refl}
 use lib.ListN.{length, getD, drop, drop-of-length-le}
-use lib.Seq.{drop-cons}
+use lib.Seq.{drop-cons, drop-drop}
 use Rattle.whole.specs.Linear.{up, dn, order, sum, multiple}
-use Rattle.whole.specs.Laws.{≤ℤ-split, lt-test, nlt-test}
+use Rattle.whole.specs.Laws.{≤ℤ-trans, ≤ℤ-total, ≤ℤ-split, <ℤ→≤ℤ, lt-test, nlt-test, test-lt, test-nlt}
 use Rattle.whole.specs.Solver.{var, num, _⊖_, _⊗_, ⊝_, ring}
 use Rattle.whole.specs.Fits.{Within, []ʷ, _∷ʷ_, value-within, at-most, at-least}
-use Rattle.rules.specs.Lists.{best-from}
+use Rattle.rules.specs.Lists.{first-place, best-from}
 use Rattle.rules.specs.Streams.{Stream, limit, eqZ}
 use Rattle.rules.specs.Round.{Slope, height, left-top, right-top}
 use Rattle.laws_outline.specs.ListLaws.{at-place-in}
 use Rattle.laws_outline.specs.TwoKeys.{two-keys-yes, two-keys-no}
 use Rattle.samples.specs.Positions.{Near}
 use Rattle.round.specs.declared.tops.Top.{Top}
-use Rattle.round.specs.Tops.{spread, scaled, key, better-of}
+use Rattle.round.specs.Tops.{spread, scaled, key, better-of, reaches}
 use Rattle.round.proofs.Choosing.{negated}
 
 -- ---- the order of keys
@@ -72,11 +73,38 @@ module _ (side : ℤ → ℤ) (K : Slope) {k : Slope} (e : k ≡ scaled K) where
       ap₂ (λ (y z : ℤ). ltZ (y +ℤ side (p .east)) (z +ℤ side (q .east))) (height-scaled p) (height-scaled q)
       ∙ joint-test (height K p) (height K q) h j
 
+  -- the lower of two has the lower key
+  key-lower : (p q : Stream) → Within (side (p .east)) limit → Within (side (q .east)) limit → height k p <ℤ height k q → key side k p <ℤ key side k q
+  key-lower p q h j l =
+      omega (
+        order,
+        height-scaled p,
+        height-scaled q,
+        multiple spread (height K p),
+        multiple spread (height K q),
+        sum (height k p) (side (p .east)),
+        sum (height k q) (side (q .east)),
+        at-most h,
+        at-least j,
+      )
+
 -- ---- the sample with the greatest key
 
 -- the first of two has the greater key
 abbrev pub greater : (ℕ → ℤ) → ℕ → ℕ → Bool
 greater key-of x y = ltZ (key-of y) (key-of x)
+
+-- the best so far stays the best over items that it beats, up to the first that passes a test
+passed-beaten : (beats : ℕ → ℕ → Bool) (test : ℕ → Bool) {t : ℕ} → ((x : ℕ) → test x ≡ false → beats x t ≡ false)
+    → (l : List ℕ) → best-from beats t (drop (first-place test l) l) ≡ best-from beats t l
+unfolding first-place best-from
+passed-beaten beats test f [] = refl
+passed-beaten beats test {t} f (x ∷ l) = go (test x) refl (passed-beaten beats test f l)
+  where
+    go : (b : Bool) → test x ≡ b → best-from beats t (drop (first-place test l) l) ≡ best-from beats t l
+        → best-from beats t (drop (cond b zero (suc (first-place test l))) (x ∷ l)) ≡ best-from beats (cond (beats x t) x t) l
+    go true e r = refl
+    go false e r = r ∙ ap (λ (b : Bool). best-from beats (cond b x t) l) (sym (f x e))
 
 module _ (key-of : ℕ → ℤ) (list : List ℕ) where
   abbrev beats : ℕ → ℕ → Bool
@@ -112,24 +140,77 @@ module _ (key-of : ℕ → ℤ) (list : List ℕ) where
         go true e = record { given = at-place-in list i 0 h; key-is = k; leads = on e }
         go false e = record { given = g .given; key-is = g .key-is; leads = on e }
 
+  -- one that leads goes on leading where all that is passed is beaten: up to the first place that passes a test, or not at all
+  pub leads-on : (test : ℕ → Bool) (short : Bool) {i : ℕ} {t : Top} → ((x : ℕ) → test x ≡ false → beats x (t .number) ≡ false)
+      → Leads i t → Leads (i + cond short 0 (first-place test (drop i list))) t
+  leads-on test true {i} {t} f g = subst (λ (n : ℕ). Leads n t) (sym (add-zero i)) g
+  leads-on test false {i} {t} f g =
+      record {
+        given = g .given;
+        key-is = g .key-is;
+        leads =
+            ap (best-from beats (t .number)) (sym (drop-drop (first-place test (drop i list)) i list))
+            ∙ passed-beaten beats test f (drop i list)
+            ∙ g .leads;
+      }
+
   pub leads-all : {best : ℕ → ℕ → Bool} {i : ℕ} {t : Top} → beats ≡ best → length list ≤ i → Leads i t → t .number ≡ best-from best first (drop 1 list)
   unfolding best-from
   leads-all {t} e h g =
       sym (ap (best-from beats (t .number)) (drop-of-length-le list h)) ∙ g .leads ∙ ap (λ (b : ℕ → ℕ → Bool). best-from b first (drop 1 list)) e
 
+-- the first of two samples is no higher than the second
+abbrev pub NoHigher : (ℕ → Stream) → Slope → ℕ → ℕ → Type 0
+NoHigher at k x y = height k (at x) ≤ℤ height k (at y)
+
 -- ---- the greatest keys are the tops'
 
 module _ (at : ℕ → Stream) (near : (x : ℕ) → Near (at x)) (K : Slope) {k : Slope} (e : k ≡ scaled K) where
+  turned : (x : ℕ) → Within (negℤ (at x .east)) limit
+  turned x = value-within (near x .east-near ∷ʷ []ʷ) (⊝ var 0)
+
   pub left-greater : greater (λ x. key negℤ k (at x)) ≡ left-top at K
   unfolding left-top
   left-greater =
       fun-ext (λ x. fun-ext (λ y. key-test negℤ K e (at y) (at x) (turned y) (turned x)
       ∙ ap (λ (b : Bool). ltZ (height K (at y)) (height K (at x)) || eqZ (height K (at x)) (height K (at y)) && b)
       (negated (at x .east) (at y .east))))
-    where
-      turned : (x : ℕ) → Within (negℤ (at x .east)) limit
-      turned x = value-within (near x .east-near ∷ʷ []ʷ) (⊝ var 0)
 
   pub right-greater : greater (λ x. key (λ z. z) k (at x)) ≡ right-top at K
   unfolding right-top
   right-greater = fun-ext (λ x. fun-ext (λ y. key-test (λ z. z) K e (at y) (at x) (near y .east-near) (near x .east-near)))
+
+  -- ---- samples passed by their heights
+
+  -- what does not reach a top is beaten by all that do
+  beaten : (side : ℤ → ℤ) → ((x : ℕ) → Within (side (at x .east)) limit) → (top t : ℕ) → NoHigher at k top t
+      → (x : ℕ) → reaches at k top x ≡ false → greater (λ y. key side k (at y)) x t ≡ false
+  beaten side w top t h x f = nlt-test (<ℤ→≤ℤ (key-lower side K e (at x) (at t) (w x) (w t) (omega order)))
+
+  pub left-beaten : (top t : ℕ) → NoHigher at k top t → (x : ℕ) → reaches at k top x ≡ false → greater (λ y. key negℤ k (at y)) x t ≡ false
+  left-beaten = beaten negℤ turned
+
+  pub right-beaten : (top t : ℕ) → NoHigher at k top t → (x : ℕ) → reaches at k top x ≡ false → greater (λ y. key (λ z. z) k (at y)) x t ≡ false
+  right-beaten = beaten (λ z. z) (λ x. near x .east-near)
+
+  -- one of no greater key is no higher
+  by-keys : (x y : ℕ) → key (λ z. z) k (at x) ≤ℤ key (λ z. z) k (at y) → NoHigher at k x y
+  by-keys x y h =
+      ⊎-elim (λ l. l) (λ l. absurd (apart (key-lower (λ z. z) K e (at y) (at x) (near y .east-near) (near x .east-near) l)))
+      (≤ℤ-total (height k (at x)) (height k (at y)))
+    where
+      apart : key (λ z. z) k (at y) <ℤ key (λ z. z) k (at x) → ⊥
+      apart l = omega order
+
+  -- so with one sample more the top furthest west stays no higher than the one furthest east
+  pub no-higher-more : (t u : Top) (x : ℕ) (y z : ℤ) {v w : Top} → u .key ≡ key (λ z. z) k (at (u .number)) → z ≡ key (λ z. z) k (at x)
+      → v ≡ better-of t y x → w ≡ better-of u z x → NoHigher at k (t .number) (u .number) → NoHigher at k (v .number) (w .number)
+  no-higher-more t u x y z p q r s h =
+      subst₂ (λ (v w : Top). NoHigher at k (v .number) (w .number)) (sym r) (sym s) (go (ltZ (t .key) y) (ltZ (u .key) z) (sym (ap₂ ltZ p q)))
+    where
+      go : (b c : Bool) → ltZ (key (λ z. z) k (at (u .number))) (key (λ z. z) k (at x)) ≡ c
+          → NoHigher at k (cond b (record { key = y; number = x }) t .number) (cond c (record { key = z; number = x }) u .number)
+      go true true f = ≤ℤ-refl (height k (at x))
+      go true false f = by-keys x (u .number) (test-nlt _ _ f)
+      go false true f = ≤ℤ-trans h (by-keys (u .number) x (<ℤ→≤ℤ (test-lt _ _ f)))
+      go false false f = h

@@ -1,14 +1,15 @@
 -- The tops of a list: the keys by which they are found, what the code asks and what its struct says.
 -- Assumes nothing.
 use mathlib.Core.Path.{_≡_}
-use mathlib.Core.Bool.{cond}
+use mathlib.Core.Bool.{Bool, cond}
 use mathlib.Core.List.{List}
-use Prim.Native.Nat.{ℕ, _≤_}
+use Prim.Native.Nat.{ℕ, _+_, _≤_, _<_}
 use lib.IntN.{ℤ, pos, negℤ, _+ℤ_, _*ℤ_}
-use lib.Signed.{ltZ}
+use lib.Dec.{ltb}
+use lib.Signed.{leZ, ltZ}
 use lib.ListN.{length, getD, drop}
 use Rattle.whole.specs.Fits.{Within}
-use Rattle.rules.specs.Lists.{best-from}
+use Rattle.rules.specs.Lists.{first-place, best-from}
 use Rattle.rules.specs.Streams.{Stream}
 use Rattle.rules.specs.Round.{Slope, height, left-top, right-top}
 use Rattle.slopes.specs.Fractions.{Near}
@@ -46,6 +47,21 @@ pub record KeysAre (k : Slope) (s : Stream) (r : Keys) : Type 0 where
 -- the sample of the greater key, the earlier of equal ones
 abbrev pub better-of : Top → ℤ → ℕ → Top
 better-of t k x = cond (ltZ (t .key) k) (record { key = k; number = x }) t
+
+-- a sample reaches the height of the top so far
+abbrev pub reaches : (ℕ → Stream) → Slope → ℕ → ℕ → Bool
+reaches at k top x = leZ (height k (at top)) (height k (at x))
+
+-- where the search goes on from place i: there, or in a list of 100 or more at the next sample that reaches the height of the top so far
+abbrev pub next-place : (ℕ → Stream) → Slope → ℕ → List ℕ → ℕ → ℕ
+next-place at k top list i = i + cond (ltb (length list) 100) 0 (first-place (reaches at k top) (drop i list))
+
+-- a list of samples, a sample, and a scaled slope
+pub record ReachAsks (es ns : List ℤ) (list : List ℕ) (top : ℕ) (k : Slope) : Type 0 where
+  pub sampled : Sampled es ns
+  pub listed : Listed (length es) list
+  pub given : top < length es
+  pub near : Scaled k
 
 -- a list of samples, not empty, and a slope
 pub record TopsAsk (es ns : List ℤ) (list : List ℕ) (K : Slope) : Type 0 where

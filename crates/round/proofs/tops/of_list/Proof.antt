@@ -1,22 +1,25 @@
 -- `round::tops::of_list` meets its contract: the loop carries the samples with the greatest keys of those passed. Assumes nothing.
-use mathlib.Core.Path.{_∙_}
+use mathlib.Core.Path.{_≡_, sym, _∙_, subst}
 use mathlib.Core.List.{List}
-use Prim.Native.Nat.{ℕ, _-_}
+use Prim.Native.Nat.{ℕ, _+_, _-_}
 use native.Mathlib.Omega.{arith}
 use borrow.Author.Needs.{needs}
 use lib.IntN.{ℤ, negℤ}
-use lib.ListN.{length}
+use lib.Dec.{ltb}
+use lib.Signed.{≤ℤ-refl}
+use lib.ListN.{length, getD}
 use mir.Syntax.{w64}
-use mir.Val.{toZ}
+use mir.Val.{toZ, ofZ}
 use Rattle.whole.specs.Solver.{var}
 use Rattle.whole.specs.Fits.{step-fits}
 use Rattle.rules.specs.Streams.{Stream}
-use Rattle.rules.specs.Round.{Slope}
+use Rattle.rules.specs.Round.{Slope, height}
 use Rattle.slopes.specs.Fractions.{as-slope}
-use Rattle.samples.specs.Positions.{at}
+use Rattle.samples.specs.Positions.{Near, at}
 use Rattle.samples.specs.Samples.{listed-at, near-at}
-use Rattle.round.specs.Tops.{slope-by, key}
-use Rattle.round.proofs.Topping.{Leads, leads-first, leads-more, leads-all, left-greater, right-greater}
+use Rattle.round.specs.declared.tops.Top.{Top}
+use Rattle.round.specs.Tops.{slope-by, scaled, key, reaches, next-place}
+use Rattle.round.proofs.Topping.{Leads, leads-first, leads-more, leads-on, leads-all, NoHigher, left-greater, right-greater, left-beaten, right-beaten, no-higher-more}
 use Rattle.round.proofs.RoundWords.{word-of, slope-leaf, times, scaled-words, scaled-is, scaled-near}
 use Rattle.round.proofs.tops.of_list.Statement.{statement}
 use Rattle.round.proofs.tops.of_list.Tie as tie
@@ -24,7 +27,8 @@ use Rattle.round.proofs.tops.of_list.Tie as tie
 abbrev Inv-loop : tie.InvT-loop
 Inv-loop e n lower list rise run x left₀ right₀ i₀ left right i =
     let k = slope-by (toZ w64 rise) (toZ w64 run) in
-    Leads (λ x. key negℤ k (at e n lower x)) list i left × Leads (λ x. key (λ z. z) k (at e n lower x)) list i right
+    (Leads (λ x. key negℤ k (at e n lower x)) list i left × Leads (λ x. key (λ z. z) k (at e n lower x)) list i right)
+    × NoHigher (at e n lower) k (left .number) (right .number)
 
 abbrev μ-loop : tie.MeasureT-loop
 μ-loop e n lower list rise run x left₀ right₀ i₀ left right i = length list - i
@@ -75,8 +79,11 @@ loop-holds c =
     let r = d .keys-of .result in
     let k = d .keys-of .ensures in
     let many = s .pre .some in (
-      leads-first (key-of s negℤ) (list s) many (word-of (r .west) (c .before .struct-told3 .given .0 .1) ∙ k .west-is),
-      leads-first (key-of s (λ z. z)) (list s) many (word-of (r .east) (c .struct-told4 .given .1 .0 .1) ∙ k .east-is),
+      (
+        leads-first (key-of s negℤ) (list s) many (word-of (r .west) (c .before .struct-told3 .given .0 .1) ∙ k .west-is),
+        leads-first (key-of s (λ z. z)) (list s) many (word-of (r .east) (c .struct-told4 .given .1 .0 .1) ∙ k .east-is),
+      ),
+      ≤ℤ-refl (height (scaled-words (K s)) (places s (getD (list s) 0 0))),
     )
 
 keys-of-requires-2 : tie.Need-keys-of-requires-2 Inv-loop μ-loop
@@ -85,26 +92,93 @@ keys-of-requires-2 c κs =
     let h = start l .pre in
     (h .sampled, (listed-at (h .listed) (l .loop .i) (c .before .loop-test .taken), scaled-near (h .near)))
 
+-- the tops with one sample more
+module _ (c : tie.After-better2 Inv-loop μ-loop) where
+  abbrev keys : tie.After-keys-of2 Inv-loop μ-loop
+  keys = c .before .before .before .before
+
+  abbrev head : tie.At-loop Inv-loop μ-loop
+  head = keys .before .before .before
+
+  abbrev s : tie.Start Inv-loop μ-loop
+  s = start head
+
+  abbrev left : Top
+  left = c .before .before .better .result
+
+  abbrev right : Top
+  right = c .better2 .result
+
+  west-is : toZ w64 (ofZ w64 (keys .keys-of2 .result .west)) ≡ key-of s negℤ (getD (list s) (head .loop .i) 0)
+  west-is = word-of (keys .keys-of2 .result .west) (c .before .before .before .struct-told5 .given .0 .1) ∙ keys .keys-of2 .ensures .west-is
+
+  east-is : toZ w64 (ofZ w64 (keys .keys-of2 .result .east)) ≡ key-of s (λ z. z) (getD (list s) (head .loop .i) 0)
+  east-is = word-of (keys .keys-of2 .result .east) (c .before .struct-told6 .given .1 .0 .1) ∙ keys .keys-of2 .ensures .east-is
+
+  lefts : Leads (key-of s negℤ) (list s) (head .loop .i + 1) left
+  lefts =
+      leads-more (key-of s negℤ) (list s) (head .loop .i) (keys .before .before .loop-test .taken) (head .loop .inv .0 .0) west-is (c .before .before .better .ensures)
+
+  rights : Leads (key-of s (λ z. z)) (list s) (head .loop .i + 1) right
+  rights =
+      leads-more (key-of s (λ z. z)) (list s) (head .loop .i) (keys .before .before .loop-test .taken) (head .loop .inv .0 .1) east-is (c .better2 .ensures)
+
+  near : (x : ℕ) → Near (places s x)
+  near = near-at (s .pre .sampled) (s .args .lower)
+
+  abbrev k : Slope
+  k = scaled-words (K s)
+
+  k-is : k ≡ scaled (K s)
+  k-is = scaled-is (s .pre .near)
+
+  no-higher : NoHigher (places s) k (left .number) (right .number)
+  no-higher =
+      no-higher-more (places s) near (K s) k-is
+      (head .loop .left) (head .loop .right) (getD (list s) (head .loop .i) 0)
+      (toZ w64 (ofZ w64 (keys .keys-of2 .result .west))) (toZ w64 (ofZ w64 (keys .keys-of2 .result .east)))
+      (head .loop .inv .0 .1 .key-is) east-is (c .before .before .better .ensures) (c .better2 .ensures) (head .loop .inv .1)
+
+  -- and where the search goes on
+  abbrev on : ℕ
+  on = next-place (places s) k (left .number) (list s) (head .loop .i + 1)
+
+  lefts-on : Leads (key-of s negℤ) (list s) on left
+  lefts-on =
+      leads-on (key-of s negℤ) (list s) (reaches (places s) k (left .number)) (ltb (length (list s)) 100)
+      (left-beaten (places s) near (K s) k-is (left .number) (left .number) (≤ℤ-refl (height k (places s (left .number))))) lefts
+
+  rights-on : Leads (key-of s (λ z. z)) (list s) on right
+  rights-on =
+      leads-on (key-of s (λ z. z)) (list s) (reaches (places s) k (left .number)) (ltb (length (list s)) 100)
+      (right-beaten (places s) near (K s) k-is (left .number) (right .number) no-higher) rights
+
+next-requires : tie.Need-next-requires Inv-loop μ-loop
+next-requires c κs =
+    let h = s c .pre in
+    let here = keys c .before .before .loop-test .taken in (
+      record { sampled = h .sampled; listed = h .listed; given = h .listed .below (left c .number) (lefts c .given); near = scaled-near (h .near) },
+      omega arith,
+    )
+
+loop-less : tie.Need-loop-less Inv-loop μ-loop
+loop-less c = let here = keys (c .before) .before .before .loop-test .taken in omega (arith, c .next .ensures)
+
 loop-again : tie.Need-loop-again Inv-loop μ-loop
 loop-again c =
-    let d = c .before .before .before .before in
-    let l = d .before .before .before in
-    let s = start l in
-    let r = d .keys-of2 .result in
-    let k = d .keys-of2 .ensures in
-    let i = l .loop .i in
-    let h = d .before .before .loop-test .taken in (
-      leads-more (key-of s negℤ) (list s) i h (l .loop .inv .0)
-          (word-of (r .west) (c .before .before .before .struct-told5 .given .0 .1) ∙ k .west-is) (c .before .before .better .ensures),
-      leads-more (key-of s (λ z. z)) (list s) i h (l .loop .inv .1)
-          (word-of (r .east) (c .before .struct-told6 .given .1 .0 .1) ∙ k .east-is) (c .better2 .ensures),
+    let d = c .before in (
+      (
+        subst (λ (j : ℕ). Leads (key-of (s d) negℤ) (list (s d)) j (left d)) (sym (c .next .ensures)) (lefts-on d),
+        subst (λ (j : ℕ). Leads (key-of (s d) (λ z. z)) (list (s d)) j (right d)) (sym (c .next .ensures)) (rights-on d),
+      ),
+      no-higher d,
     )
 
 east-requires : tie.Need-east-requires Inv-loop μ-loop
-east-requires c κs = let l = c .before in start l .pre .listed .below (l .loop .left .number) (l .loop .inv .0 .given)
+east-requires c κs = let l = c .before in start l .pre .listed .below (l .loop .left .number) (l .loop .inv .0 .0 .given)
 
 east-requires-2 : tie.Need-east-requires-2 Inv-loop μ-loop
-east-requires-2 c κs = let l = c .before .before in start l .pre .listed .below (l .loop .right .number) (l .loop .inv .1 .given)
+east-requires-2 c κs = let l = c .before .before in start l .pre .listed .below (l .loop .right .number) (l .loop .inv .0 .1 .given)
 
 returns : tie.Need-returns Inv-loop μ-loop
 returns c =
@@ -114,8 +188,8 @@ returns c =
     let scaled = scaled-is (s .pre .near) in
     let end = c .before .before .loop-test .left in
     record {
-      left-is = leads-all (key-of s negℤ) (list s) (left-greater (places s) near (K s) scaled) end (l .loop .inv .0);
-      right-is = leads-all (key-of s (λ z. z)) (list s) (right-greater (places s) near (K s) scaled) end (l .loop .inv .1);
+      left-is = leads-all (key-of s negℤ) (list s) (left-greater (places s) near (K s) scaled) end (l .loop .inv .0 .0);
+      right-is = leads-all (key-of s (λ z. z)) (list s) (right-greater (places s) near (K s) scaled) end (l .loop .inv .0 .1);
       from-is = word-of (c .before .east .result) (c .before .east .ok) ∙ c .before .east .ensures;
       to-is = word-of (c .east2 .result) (c .east2 .ok) ∙ c .east2 .ensures;
     }
@@ -138,8 +212,9 @@ of-list-spec =
     keys-of-requires-2
     (λ c κs. search needs)
     (λ c κs. search needs)
-    (λ c. let g = start (c .before .before .before .before .before .before .before) .good in omega arith)
-    (λ c. search needs)
+    (λ c. let g = s c .good in let here = keys c .before .before .loop-test .taken in omega arith)
+    next-requires
+    loop-less
     loop-again
     east-requires
     east-requires-2
