@@ -3,31 +3,33 @@
 use mathlib.Core.Path.{_≡_, refl, sym, ap, ap₂, _∙_, subst}
 use mathlib.Core.Logic.{_⊎_, inl, inr}
 use mathlib.Core.List.{List, List·Memᴰ, Memᴰ·cast}
-use Prim.Native.Nat.{ℕ, _+_, _*_, _-_, _/_, _≤_, _<_}
+use Prim.Native.Nat.{ℕ, _+_, _*_, _-_, _≤_, _<_}
 use native.Mathlib.Nat.{not-suc-le-zero, eq-or-lt-of-le}
 use native.Mathlib.Omega.{arith}
-use lib.ListN.{length, getD, drop, take, length-drop}
+use lib.ListN.{length, getD, drop, length-drop}
 use lib.Seq.{getD-drop, take-all}
 use Rattle.rules.specs.Round.{Slope}
 use Rattle.slopes.specs.Fractions.{fraction, fraction-at, fractions, Part, Pickable, Picked}
-use Rattle.slopes.specs.Passes.{Listed, Answers, Alike, copied, Copied, Gatherable, Gathered, Pivoted}
+use Rattle.slopes.specs.Passes.{Listed, Answers, Alike, behind, copied, Copied, Gatherable, Gathered, Pivoted}
 use Rattle.slopes.specs.Order.{level-ranked}
 use Rattle.slopes.specs.ScratchLaws.{place-of, near-of, fraction-in, fractions-alike, part-is, sound-alike, alike-trans, length-put, put-alike, put-rise, put-run}
 use Rattle.slopes.specs.PassLaws.{fewer-listed, forward}
 
--- ---- a pivot: the slopes stand as they came
+-- ---- the slopes stand as they came
 
-module _ {n : ℕ} {w v : List ℕ} {p : Slope} (h : Pivoted n w v p) where
-  pub pivoted-in : List·Memᴰ p (fractions n v)
-  pivoted-in = subst (List·Memᴰ p) (sym (fractions-alike n (h .front))) (h .isIn)
-
-  pub pivoted-asks : {r : ℕ} → length v ≡ length w → Pickable n r w → Pickable n r v
-  pivoted-asks e a =
+module _ (n : ℕ) {w v : List ℕ} (h : Alike (2 * n) w v) where
+  pub alike-asks : {r : ℕ} → length v ≡ length w → Pickable n r w → Pickable n r v
+  alike-asks e a =
       let room = a .room in
-      record { rank-low = a .rank-low; rank-high = a .rank-high; sound = sound-alike (h .front) (a .sound); room = omega arith }
+      record { rank-low = a .rank-low; rank-high = a .rank-high; sound = sound-alike h (a .sound); room = omega arith }
 
-  pub pivoted-answer : {r : ℕ} {x : Slope} → Answers r (fractions n v) x → Answers r (fractions n w) x
-  pivoted-answer {r} {x} = subst (λ (l : List Slope). Answers r l x) (fractions-alike n (h .front))
+  pub alike-answer : {r : ℕ} {x : Slope} → Answers r (fractions n v) x → Answers r (fractions n w) x
+  alike-answer {r} {x} = subst (λ (l : List Slope). Answers r l x) (fractions-alike n h)
+
+-- ---- a pivot
+
+pub pivoted-in : {n : ℕ} {w v : List ℕ} {p : Slope} → Pivoted n w v p → List·Memᴰ p (fractions n v)
+pivoted-in {n} {p = p} h = subst (List·Memᴰ p) (sym (fractions-alike n (h .front))) (h .isIn)
 
 pub pivot-here : (n : ℕ) (w : List ℕ) {k : ℕ} {p : Slope} → k < n → p ≡ fraction-at w k → Pivoted n w w p
 pivot-here n w h e = record { front = record { same = λ j i. refl }; isIn = Memᴰ·cast e (fraction-in n w h) }
@@ -92,16 +94,12 @@ module _ {n : ℕ} {w v : List ℕ} {g j : ℕ} (h : Gathering n w v g) (below :
         copies = λ k b. copy-more k (eq-or-lt-of-le (omega arith));
       }
 
--- what lies behind the first n, lent
-abbrev pub behind : ℕ → List ℕ → List ℕ
-behind n v = take (length v - 2 * n) (drop (2 * n) v)
+pub behind-is : (n : ℕ) (v : List ℕ) → behind n v ≡ drop (2 * n) v
+behind-is n v = take-all (length v - 2 * n) (drop (2 * n) v) (omega (arith, length-drop (2 * n) v))
 
 module _ {n : ℕ} {w v : List ℕ} {g : ℕ} (all : Gatherable n w) (long : length v ≡ length w) (h : Gathered n w v g) where
-  behind-is : behind n v ≡ drop (2 * n) v
-  behind-is = take-all (length v - 2 * n) (drop (2 * n) v) (omega (arith, length-drop (2 * n) v))
-
   word-behind : (i : ℕ) → getD (behind n v) i 0 ≡ getD v (2 * n + i) 0
-  word-behind i = ap (λ (l : List ℕ). getD l i 0) behind-is ∙ getD-drop (2 * n) v i 0
+  word-behind i = ap (λ (l : List ℕ). getD l i 0) (behind-is n v) ∙ getD-drop (2 * n) v i 0
 
   rise-behind : (k : ℕ) → getD (behind n v) (2 * k) 0 ≡ getD v (2 * (n + k)) 0
   rise-behind k = word-behind (2 * k) ∙ ap (λ (i : ℕ). getD v i 0) (omega arith)
@@ -109,16 +107,15 @@ module _ {n : ℕ} {w v : List ℕ} {g : ℕ} (all : Gatherable n w) (long : len
   run-behind : (k : ℕ) → getD (behind n v) (2 * k + 1) 0 ≡ getD v (2 * (n + k) + 1) 0
   run-behind k = word-behind (2 * k + 1) ∙ ap (λ (i : ℕ). getD v i 0) (omega arith)
 
-  pub gathered-asks : Pickable g ((g + 1) / 2) (behind n v)
-  gathered-asks =
-      let one = h .one in
+  pub gathered-asks : {r : ℕ} → 1 ≤ r → r ≤ g → Pickable g r (behind n v)
+  gathered-asks low high =
       let few = h .few in
       let room = all .room in
       record {
-        rank-low = omega arith;
-        rank-high = omega arith;
+        rank-low = low;
+        rank-high = high;
         sound = record { part = part };
-        room = subst (λ (l : List ℕ). 4 * g ≤ length l) (sym behind-is) (omega (arith, length-drop (2 * n) v));
+        room = subst (λ (l : List ℕ). 4 * g ≤ length l) (sym (behind-is n v)) (omega (arith, length-drop (2 * n) v));
       }
     where
       part : (k : ℕ) → k < g → Part (getD (behind n v) (2 * k) 0) (getD (behind n v) (2 * k + 1) 0)

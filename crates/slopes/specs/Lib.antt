@@ -6,3 +6,4 @@ pub mod PassLaws
 pub mod PivotSteps
 pub mod ShortLists
 pub mod Gathering
+pub mod Brackets

@@ -3,10 +3,10 @@
 use mathlib.Core.Path.{_≡_, refl, ap, _∙_, subst}
 use mathlib.Core.Bool.{Bool, true, false, cond, not}
 use mathlib.Core.List.{List, [], _∷_, map, List·Memᴰ, List·Memᴰ·head, List·Memᴰ·tail}
-use Prim.Native.Nat.{ℕ, zero, suc, _-_, _≤_, _<_}
+use Prim.Native.Nat.{ℕ, zero, suc, _+_, _-_, _≤_, _<_}
 use native.Mathlib.Nat.{le-of-suc-le-suc, not-suc-le-zero}
 use native.Mathlib.Omega.{arith}
-use lib.Dec.{T}
+use lib.Dec.{T, T-not, not-T}
 use lib.ListN.{length, getD}
 use lib.IntN.{_*ℤ_}
 use lib.Signed.{≤ℤ-refl}
@@ -14,8 +14,8 @@ use Rattle.rules.specs.Lists.{those, consIf, insert, sorted}
 use Rattle.rules.specs.Picker.{ranked}
 use Rattle.rules.specs.Round.{Slope, slope-le}
 use Rattle.laws_rounds.specs.Slopes.{Up, slope-order}
-use Rattle.laws_ranks.specs.Counts.{count, not-by, count-map, count-not, count-le-length, counted}
-use Rattle.laws_ranks.specs.Ranks.{HasRank, Level, under, upto, over, rank-among-below, rank-among-above}
+use Rattle.laws_ranks.specs.Counts.{count, not-by, count-all, count-nothing, count-map, count-not, count-le-length, length-those, count-split, of-those, counted}
+use Rattle.laws_ranks.specs.Ranks.{not-not, twice, HasRank, Level, under, upto, over, rank-among-below, rank-among-above}
 use Rattle.laws_ranks.specs.RanksAmong.{OrderOn, Held, item-of, held-order, rank-of-key, rank-of-item, rank-by-counts-on}
 
 -- ---- picking by a pivot, where the test is an order among the items that P holds of
@@ -68,6 +68,65 @@ module _ {A : Type 0} {P : A → Type 0} {le : A → A → Bool} (o : OrderOn P 
             (subst (λ (n : ℕ). HasRank le (r - n) (map item-of (those (λ x. over le p (x .item)) hs)) v) e
             (subst (λ (l : List A). HasRank le (r - count (upto le p) (map item-of hs)) l v) (those-map (over le p) item-of hs) h))))
 
+-- ---- a bracket: what lies below its lower end is left out and counted, and what lies above its upper end is left out
+
+module _ {A : Type 0} {P : A → Type 0} {le : A → A → Bool} (o : OrderOn P le) (p : A) (Pp : P p) (xs : List A) (all : (x : A) → List·Memᴰ x xs → P x)
+    (r : ℕ) {v : A} where
+  pub rank-from-on : List·Memᴰ v (those (not-by (under le p)) xs) → HasRank le (r - count (under le p) xs) (those (not-by (under le p)) xs) v → HasRank le r xs v
+  rank-from-on m h =
+      let a = h .fewer in
+      let b = h .enough in
+      record { fewer = omega (arith, passes (under le v) lower-under); enough = omega (arith, passes (upto le v) lower-upto) }
+    where
+      k : List·Memᴰ v xs × T (not (under le p v))
+      k = of-those (not-by (under le p)) xs m
+
+      Pv : P v
+      Pv = all v (k .0)
+
+      pv : T (le p v)
+      pv = not-not (le p v) (k .1)
+
+      lower-under : (x : A) → P x → T (under le p x) → T (under le v x)
+      lower-under x Px t = not-T (le v x) (λ s. T-not (le p x) t (o .trans p v x Pp Pv Px pv s))
+
+      lower-upto : (x : A) → P x → T (under le p x) → T (upto le v x)
+      lower-upto x Px t = o .trans x p v Px Pp Pv (o .total p x Pp Px t) pv
+
+      -- all below p pass
+      passes : (g : A → Bool) → ((x : A) → P x → T (under le p x) → T (g x)) → count g xs ≡ count (under le p) xs + count g (those (not-by (under le p)) xs)
+      passes g h =
+          let below = those (under le p) xs in
+          let e = count-all g below (λ x i. let j = of-those (under le p) xs i in h x (all x (j .0)) (j .1)) ∙ length-those (under le p) xs in
+          omega (arith, count-split g (under le p) xs)
+
+  pub rank-upto-on : List·Memᴰ v (those (not-by (over le p)) xs) → HasRank le r (those (not-by (over le p)) xs) v → HasRank le r xs v
+  rank-upto-on m h =
+      let a = h .fewer in
+      let b = h .enough in
+      record { fewer = omega (arith, passes (under le v) (λ x Px t. o .total v x Pv Px t)); enough = omega (arith, passes (upto le v) (λ x Px t. t)) }
+    where
+      k : List·Memᴰ v xs × T (not (over le p v))
+      k = of-those (not-by (over le p)) xs m
+
+      Pv : P v
+      Pv = all v (k .0)
+
+      vp : T (le v p)
+      vp = not-not (le v p) (k .1)
+
+      -- none above p passes
+      passes : (g : A → Bool) → ((x : A) → P x → T (g x) → T (le x v)) → count g xs ≡ count g (those (not-by (over le p)) xs)
+      passes g h =
+          let above = those (over le p) xs in
+          let e =
+          count-nothing g above
+          (λ x i. let j = of-those (over le p) xs i in
+          let Px = all x (j .0) in
+          not-T (g x) (λ t. T-not (le x p) (j .1) (o .trans x v p Px Pv Pp (h x Px t) vp)))
+          in
+          omega (arith, count-split g (over le p) xs)
+
 -- ---- the r-th smallest does not depend on what is said where there is none
 
 module _ {A : Type 0} (le : A → A → Bool) where
@@ -95,10 +154,6 @@ module _ {A : Type 0} (le : A → A → Bool) where
   ranked-default d e r xs low high = at-default (sorted le xs) (r - 1) d e (omega (arith, length-sorted xs))
 
 -- ---- slopes
-
-twice : (b : Bool) → T b → T (not (not b))
-twice true t = tt
-twice false t = t
 
 slope-self : (k : Slope) → T (slope-le k k)
 unfolding slope-le

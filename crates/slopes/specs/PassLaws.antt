@@ -13,7 +13,7 @@ use lib.ListN.{length, getD, drop, length-drop}
 use lib.Seq.{getD-drop}
 use Rattle.rules.specs.Lists.{those, consIf}
 use Rattle.rules.specs.Round.{Slope, slope-le}
-use Rattle.laws_ranks.specs.Counts.{bit, count, count-append, count-le-length, count-not, those-append}
+use Rattle.laws_ranks.specs.Counts.{bit, count, count-append, count-le-length, count-not, length-those, those-append}
 use Rattle.laws_ranks.specs.Ranks.{HasRank, under, upto, over}
 use Rattle.slopes.specs.Fractions.{fraction, fraction-at, fractions, put, Part, Sound, Pickable, Near}
 use Rattle.slopes.specs.Passes.{Shows, Stands, Listed, Roomy, Counted, Kept, Parted, Alike, copied}
@@ -110,6 +110,11 @@ module _ {test : Slope → Bool} {w u : List ℕ} {i k : ℕ} (h : Kept test i w
 pub kept-none : (test : Slope → Bool) (w u : List ℕ) → Kept test 0 w u 0
 unfolding fractions those
 kept-none test w u = record { front = refl; sound = sound-none u }
+
+-- of the first i no more than i pass
+pub kept-most : {test : Slope → Bool} {w u : List ℕ} {i k : ℕ} → Kept test i w u k → k ≤ i
+kept-most {test} {w} {u} {i} {k} h =
+    omega (arith, length-fractions k u, ap length (h .front), length-those test (fractions i w), count-le-length test (fractions i w), length-fractions i w)
 
 -- ---- parting: of the first i those below p at the front, b of them, and those above it behind the first n, a of them
 

@@ -4,7 +4,7 @@ use mathlib.Core.Path.{_≡_}
 use mathlib.Core.Bool.{Bool}
 use mathlib.Core.List.{List, List·Memᴰ}
 use Prim.Native.Nat.{ℕ, _+_, _-_, _*_, _≤_, _<_}
-use lib.ListN.{length, getD, drop}
+use lib.ListN.{length, getD, take, drop}
 use Rattle.rules.specs.Lists.{those}
 use Rattle.rules.specs.Round.{Slope, slope-le}
 use Rattle.laws_ranks.specs.Counts.{count}
@@ -33,6 +33,10 @@ pub record Roomy (n : ℕ) (w : List ℕ) : Type 0 where
   pub sound : Sound n w
   pub room : 4 * n ≤ length w
 
+-- the same words below m
+pub record Alike (m : ℕ) (w v : List ℕ) : Type 0 where
+  pub same : (j : ℕ) → j < m → getD v j 0 ≡ getD w j 0
+
 -- how many of the first n lie below p, and how many above
 pub record Counted (n : ℕ) (w : List ℕ) (p : Slope) (c : code.Counts) : Type 0 where
   pub below-is : c .below ≡ count (under slope-le p) (fractions n w)
@@ -48,6 +52,11 @@ pub record Parted (n : ℕ) (w v : List ℕ) (p : Slope) (c : code.Counts) : Typ
   pub counted : Counted n w p c
   pub below-kept : Kept (under slope-le p) n w v (c .below)
   pub above-kept : Kept (over slope-le p) n w (drop (2 * n) v) (c .above)
+
+-- of the first n those that pass the test, k of them, behind the first n, and these as they came
+pub record KeptBehind (test : Slope → Bool) (n : ℕ) (w v : List ℕ) (k : ℕ) : Type 0 where
+  pub front : Alike (2 * n) w v
+  pub kept : Kept test n w (drop (2 * n) v) k
 
 -- p is the least of the first n, and the others stand at the front
 pub record Lifted (n : ℕ) (w : List ℕ) (p : Slope) (v : List ℕ) : Type 0 where
@@ -67,13 +76,19 @@ pub record Narrowed (n r : ℕ) (w v : List ℕ) (p : Slope) (k s : ℕ) : Type 
   pub back : 1 ≤ k → (x : Slope) → Answers s (fractions k v) x → Answers r (fractions n w) x
   pub none-left : k ≡ 0 → Answers r (fractions n w) p
 
+-- what lies behind the first n, lent
+abbrev pub behind : ℕ → List ℕ → List ℕ
+behind n v = take (length v - 2 * n) (drop (2 * n) v)
+
+-- k of the first n stand behind them, and rank s is sought among these: an answer there is an answer to rank r of the first n, which stand as they came
+pub record Bracketed (n r : ℕ) (w v : List ℕ) (k s : ℕ) : Type 0 where
+  pub front : Alike (2 * n) w v
+  pub asks : 1 ≤ k → Pickable k s (behind n v)
+  pub back : 1 ≤ k → (x : Slope) → Answers s (fractions k (behind n v)) x → Answers r (fractions n w) x
+
 -- slope i copied to the place of slope k
 abbrev pub copied : List ℕ → ℕ → ℕ → List ℕ
 copied w i k = put w k (getD w (2 * i) 0) (getD w (2 * i + 1) 0)
-
--- the same words below m
-pub record Alike (m : ℕ) (w v : List ℕ) : Type 0 where
-  pub same : (j : ℕ) → j < m → getD v j 0 ≡ getD w j 0
 
 -- what lies above i and j lies above both places
 pub record Capped (i j low high : ℕ) : Type 0 where

@@ -67,12 +67,11 @@ fn stride(n: usize) -> usize
     if n < 200 { 8 } else { n / 25 }
 }
 
-// Gathers a sample at equal distances, and says how many it has.
-fn sample(w: &mut [u32], n: usize) -> usize
-    requires { ⌜ Gatherable n (now w) ⌝ }
+// Gathers a sample, one of every d slopes, and says how many it has.
+pub fn sample(w: &mut [u32], n: usize, d: usize) -> usize
+    requires { ⌜ Gatherable n (now w) × (8 ≤ d) × (d ≤ n + 8) ⌝ }
     ensures { λ r. ⌜ Gathered n (now (w .entry)) (now (w .exit)) r ⌝ }
 {
-    let d = stride(n);
     let mut g: usize = 0;
     let mut j = 0;
     while j < n {
@@ -88,5 +87,9 @@ pub fn few(w: &mut [u32], n: usize, wide: bool) -> usize
     requires { ⌜ Gatherable n (now w) ⌝ }
     ensures { λ r. ⌜ Gathered n (now (w .entry)) (now (w .exit)) r ⌝ }
 {
-    if wide { middles(w, n) } else { sample(w, n) }
+    if wide {
+        middles(w, n)
+    } else {
+        sample(w, n, stride(n))
+    }
 }

@@ -1,6 +1,8 @@
 // The pick of a slope: the slope of a given rank among those that lie at the front of scratch, two words each. Slopes are compared by cross products and
 // never divided. A step parts the slopes below a pivot from those above it and goes on with the side that has the rank; correctness needs only that the pivot is
-// one of the slopes. Of twelve slopes or fewer the least is taken out until it has the rank.
+// one of the slopes. Of twelve slopes or fewer the least is taken out until it has the rank. Of 400 or more, first those well below the rank and well above it are left
+// out.
+mod bracket;
 mod gather;
 mod scan;
 mod words;
@@ -20,12 +22,21 @@ pub struct Fraction {
     pub run: u32,
 }
 
-// The slope of rank r among the q at the front of w.
+// The slope of rank r among the q at the front of w: among those of a bracket, or among all where that has not the rank.
 pub fn pick_slope(w: &mut [u32], q: usize, r: usize) -> Slope
     requires { ⌜ Pickable q r (now w) ⌝ }
     ensures { λ s. ⌜ Picked r (fractions q (now (w .entry))) (as-slope s) ⌝ }
 {
-    pick(w, q, r, false)
+    if q < 400 {
+        return pick(w, q, r, false);
+    }
+    let b = bracket::bracket(w, q, r);
+    let k = b.n;
+    if k == 0 {
+        return pick(w, q, r, false);
+    }
+    let e = 2 * q;
+    pick(&mut w[e..], k, b.r, false)
 }
 
 // The same; wide says that the step before left more than 3/4 of its slopes.

@@ -10,8 +10,11 @@ use super::words::store;
 ghost use mathlib.Core.List.{List·Memᴰ};
 ghost use Prim.Native.Nat.{_*_, _≤_};
 ghost use lib.ListN.{length, drop};
+ghost use Rattle.rules.specs.Round.{slope-le};
+ghost use Rattle.laws_ranks.specs.Counts.{not-by};
+ghost use Rattle.laws_ranks.specs.Ranks.{under, over};
 ghost use Rattle.slopes.specs.Fractions.{as-slope, fractions, Near, Pickable};
-ghost use Rattle.slopes.specs.Passes.{Listed, Roomy, Parted, Lifted, Answers, Alike, Narrowed};
+ghost use Rattle.slopes.specs.Passes.{Listed, Roomy, Parted, Kept, KeptBehind, Lifted, Answers, Alike, Narrowed};
 
 // How many slopes lie below another, and how many above.
 struct Counts {
@@ -37,6 +40,39 @@ fn part(w: &mut [u32], n: usize, p: Slope) -> Counts
         i += 1;
     }
     Counts { below, above }
+}
+
+// Keeps those of the n slopes at the front that are not below p behind the n, in their order, and says how many they are. Each is stored, and the place moves on by
+// the test.
+pub fn not_below(w: &mut [u32], n: usize, p: Slope) -> usize
+    requires { ⌜ Roomy n (now w) × Near (as-slope p) ⌝ }
+    ensures { λ k. ⌜ KeptBehind (not-by (under slope-le (as-slope p))) n (now (w .entry)) (now (w .exit)) k ⌝ }
+{
+    let mut kept: usize = 0;
+    let mut i = 0;
+    while i < n {
+        let s = slope_at(w, i);
+        copy(w, i, n + kept);
+        kept += !less(s, p) as usize;
+        i += 1;
+    }
+    kept
+}
+
+// Keeps those of the n slopes at the front that are not above p there, in their order, and says how many they are.
+pub fn not_above(w: &mut [u32], n: usize, p: Slope) -> usize
+    requires { ⌜ Listed n (now w) × Near (as-slope p) ⌝ }
+    ensures { λ k. ⌜ Kept (not-by (over slope-le (as-slope p))) n (now (w .entry)) (now (w .exit)) k ⌝ }
+{
+    let mut kept: usize = 0;
+    let mut i = 0;
+    while i < n {
+        let s = slope_at(w, i);
+        copy(w, i, kept);
+        kept += !less(p, s) as usize;
+        i += 1;
+    }
+    kept
 }
 
 // Takes the least of the n slopes at the front out; the others close up.

@@ -11,7 +11,7 @@ use Rattle.slopes.specs.Fractions.{as-slope}
 use Rattle.slopes.specs.Passes.{Listed, Gatherable, Pivotable}
 use Rattle.slopes.specs.ScratchLaws.{alike-take}
 use Rattle.slopes.specs.PassLaws.{listed, fewer-listed, stands}
-use Rattle.slopes.specs.Gathering.{pivoted-in, pivoted-asks, pivoted-answer, pivot-here, gathered-asks, gathered-pivot}
+use Rattle.slopes.specs.Gathering.{alike-asks, alike-answer, pivoted-in, pivot-here, gathered-asks, gathered-pivot}
 use borrow.Fn.Kinds.{In}
 use borrow.Fn.PlainCycle.{Measures, is, falls, and}
 use Rattle.slopes.proofs.pick.Reads as pick
@@ -96,13 +96,13 @@ pick-narrow-requires : (t : ℕ) → pick-lts.Need-narrow-requires (pick-claims 
 pick-narrow-requires t c κs =
     let found = c .before .before .before in
     let p = found .pivot in
-    (pivoted-asks (p .ensures) (p .kept .0) (pick-start t found .pre .1), pivoted-in (p .ensures))
+    (alike-asks (pick-start t found .args .n) (p .ensures .front) (p .kept .0) (pick-start t found .pre .1), pivoted-in (p .ensures))
 
 pick-same-length-2 : (t : ℕ) → pick-lts.Need-same-length-2 (pick-claims t) (pick-at t) pick.Post
 pick-same-length-2 t c = let n = c .before .before .before in n .narrow .kept .0 ∙ pick-found t n .pivot .kept .0
 
 pick-returns-2 : (t : ℕ) → pick-lts.Need-returns-2 (pick-claims t) (pick-at t) pick.Post
-pick-returns-2 t c = let n = c .before .before .before in pivoted-answer (pick-found t n .pivot .ensures) (n .narrow .ensures .none-left (c .if2 .taken))
+pick-returns-2 t c = let n = c .before .before .before in alike-answer (pick-start t (pick-found t n) .args .n) (pick-found t n .pivot .ensures .front) (n .narrow .ensures .none-left (c .if2 .taken))
 
 pick-mul-pick : (t : ℕ) → pick-lts.Need-mul-pick (pick-claims t) (pick-at t) pick.Post
 pick-mul-pick t c = let start = pick-start t (pick-found t (c .before .before .before .before)) in omega (arith, start)
@@ -129,7 +129,7 @@ pick-returns-3 : (t : ℕ) → pick-lts.Need-returns-3 (pick-claims t) (pick-at 
 pick-returns-3 t c =
     let p = c .before .before .pick in
     let n = c .before .before .before .before .before .before .before in
-    pivoted-answer (pick-found t n .pivot .ensures) (n .narrow .ensures .back (omega arith) (as-slope (p .result)) (p .ensures))
+    alike-answer (pick-start t (pick-found t n) .args .n) (pick-found t n .pivot .ensures .front) (n .narrow .ensures .back (omega arith) (as-slope (p .result)) (p .ensures))
 
 -- ---- the pivot
 
@@ -187,7 +187,7 @@ pivot-pick-requires t c κs =
     let e = s .pre .0 in
     let few = f .ensures .few in
     let one = f .ensures .one in
-    (omega arith, gathered-asks (gatherable (s .pre .1) (c .before .before .before .before .before .if1 .left)) (f .kept .0) (f .ensures))
+    (omega arith, gathered-asks (gatherable (s .pre .1) (c .before .before .before .before .before .if1 .left)) (f .kept .0) (f .ensures) (omega arith) (omega arith))
 
 pivot-same-length-2 : (t : ℕ) → pivot-lts.Need-same-length-2 (pivot-claims t) (pivot-at t) pivot.Post
 pivot-same-length-2 t c =

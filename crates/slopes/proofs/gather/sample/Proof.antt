@@ -14,16 +14,13 @@ Inv-loop w₀ n d g₀ j₀ w g j = (8 * g ≤ j) × (8 * g < n + 8) × (g ≡ 0
 abbrev μ-loop : tie.MeasureT-loop
 μ-loop w₀ n d g₀ j₀ w g j = n - j
 
-stride-requires : tie.Need-stride-requires Inv-loop μ-loop
-stride-requires c κs = tt
-
 -- at least one is taken
 started : (g : ℕ) {j : ℕ} → (g ≡ 0 → j ≡ 0) → 1 ≤ j → 1 ≤ g
 started zero h i = let e = h refl in omega arith
 started (suc g) h i = omega arith
 
 loop-holds : tie.Need-loop-holds Inv-loop μ-loop
-loop-holds c = let a = c .before .before .args in (omega arith, omega arith, λ e. e, gathering-none (a .n) (a .w .now))
+loop-holds c = let a = c .before .args in (omega arith, omega arith, λ e. e, gathering-none (a .n) (a .w .now))
 
 add-copy : tie.Need-add-copy Inv-loop μ-loop
 add-copy c = omega arith
@@ -31,7 +28,7 @@ add-copy c = omega arith
 copy-requires : tie.Need-copy-requires Inv-loop μ-loop
 copy-requires c κs =
     let l = c .before .before .loop .inv .3 .long in
-    let r = c .before .before .before .before .before .pre .room in
+    let r = c .before .before .before .before .pre .0 .room in
     (omega arith, omega arith)
 
 add-g : tie.Need-add-g Inv-loop μ-loop
@@ -46,10 +43,10 @@ loop-less c = omega arith
 loop-again : tie.Need-loop-again Inv-loop μ-loop
 loop-again c =
     let at-loop = c .before .before .before .before .before in
-    let s = at-loop .before .before .before in
+    let s = at-loop .before .before in
     let l = at-loop .loop in
     let long = l .inv .3 .long in
-    let room = s .pre .room in (
+    let room = s .pre .0 .room in (
       omega arith,
       omega arith,
       λ (e : l .g + 1 ≡ 0). omega arith,
@@ -63,7 +60,7 @@ same-length c = c .before .loop .inv .3 .long
 returns : tie.Need-returns Inv-loop μ-loop
 returns c =
     let l = c .before .loop in
-    let many = c .before .before .before .before .pre .many in
+    let many = c .before .before .before .pre .0 .many in
     let some = started (l .g) (l .inv .2) (omega arith) in
     gathered (l .inv .3) some (omega arith)
 
@@ -73,7 +70,6 @@ sample-spec =
     (tie.spec
     Inv-loop
     μ-loop
-    stride-requires
     loop-holds
     add-copy
     copy-requires
