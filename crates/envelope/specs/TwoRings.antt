@@ -1,4 +1,5 @@
--- The tests of an entry that takes two rings, with scratch for both, in their order: those of the first ring, of the second, of both, then its own.
+-- The tests of an entry that takes two rings, with scratch for both, in their order: those of the first ring, of the second, of both, then its own; and two
+-- rings that passed them.
 -- Assumes nothing.
 use mathlib.Core.Path.{_≡_, refl, ap, _∙_}
 use mathlib.Core.List.{List, _∷_, _++_}
@@ -12,7 +13,13 @@ use Rattle.rules.specs.Entries.{two-ring-tests}
 use Rattle.samples.specs.Tests.{tested-of, then-answer, answer-by}
 use Rattle.samples.specs.declared.tests.Tested.{Tested}
 use Rattle.samples.specs.declared.tests.Tested.the-variants.{Passed, Refused}
-use Rattle.envelope.specs.Tests.{alone-tests}
+use Rattle.envelope.specs.Tests.{alone-tests, Sound}
+
+-- two envelopes, of not too many corners together
+pub record Rings (es ns fs ms : List ℤ) : Type 0 where
+  pub first : Sound es ns
+  pub second : Sound fs ms
+  pub few : length es + length fs ≤ most
 
 module _ {A : Type 0} (es ns fs ms : List ℤ) (scratch : List ℕ) (own : List Test) (x : A) where
   -- what the entry answers

@@ -8,19 +8,25 @@ use Prim.Native.Nat.{ℕ, zero, suc, _+_, _-_, _≤_, _<_}
 use native.Mathlib.Decide.{decLt}
 use native.Mathlib.Omega.{arith}
 use lib.IntN.{ℤ}
-use lib.ListN.{length, take, getD, List·getD-append, length-append}
+use lib.ListN.{length, take, drop, getD, List·getD-append, length-append, length-drop}
 use lib.Seq.{length-take-le, getD-take, getD-append-add}
 use borrow.Rule.Slice.PartMut.{putMid, postOf}
 use Rattle.rules.specs.Streams.{Stream, streams, sample, mirrored}
-use Rattle.rules.specs.Chain.{UpperChain, empty}
+use Rattle.rules.specs.Chain.{UpperChain, empty, starts}
 use Rattle.rules.specs.Ring.{closed}
 use Rattle.rules.specs.Use.{join}
 use Rattle.laws_stack.specs.Places.{listed, listed-alike}
-use Rattle.laws_stack.specs.DrawnWalk.{All}
+use Rattle.laws_stack.specs.Stack.{Upto}
 use Rattle.laws_stack.specs.ClosedPlaces.{chains-ring}
-use Rattle.walk.specs.TwoRings.{Corners, both, count, corner-at, listed-at, Stand, Chained}
+use Rattle.walk.specs.declared.draw.Way.{Way}
+use Rattle.walk.specs.TwoRings.{Corners, both, count, corner-at, listed-at, Stand}
+use Rattle.walk.specs.Ways.{Chained}
 use Rattle.closing.specs.TwoChains.{Both, upper-at, lower-at}
 use Rattle.walk.specs.Places.{both-length}
+
+-- the part behind the first u items
+pub behind-length : (u : ℕ) (v : List ℕ) → length (take (length v - u) (drop u v)) ≡ length v - u
+behind-length u v = length-take-le (length v - u) (drop u v) (omega (arith, length-drop u v))
 
 -- ---- a list with ys put behind its first u items
 
@@ -39,11 +45,16 @@ module _ (u k : ℕ) (v ys : List ℕ) (room : u ≤ length v) where
 -- ---- both chains
 
 -- no chain without a corner where there are samples
-chain-some : {P : ℕ → Stream} {n : ℕ} (f : ℕ → Stream) (r : ℕ) → UpperChain (All P n) (listed f r) → 0 < n → 0 < r
+chain-some : {P : ℕ → Stream} {n : ℕ} (f : ℕ → Stream) (r : ℕ) → UpperChain (Upto P n) (listed f r) → 0 < n → 0 < r
 chain-some {P} f zero (empty none) h = absurd (none (P 0) (0, h, refl))
 chain-some f (suc r) c h = omega arith
 
-module _ {es ns fs ms : List ℤ} {v ys : List ℕ} {u l : ℕ} (k : ℕ) (a : Chained es ns fs ms false v u) (b : Chained es ns fs ms true ys l) where
+-- and none with one where there are none
+chain-none : {P : ℕ → Stream} {n : ℕ} (f : ℕ → Stream) (r : ℕ) → UpperChain (Upto P n) (listed f r) → ¬ (0 < n) → r ≡ 0
+chain-none f zero c h = refl
+chain-none f (suc r) (starts l g) h = absurd (h (let p = l .given .1 in omega arith))
+
+module _ {es ns fs ms : List ℤ} {p q p′ q′ : Way} {v ys : List ℕ} {u l : ℕ} (k : ℕ) (a : Chained es ns fs ms false p q v u) (b : Chained es ns fs ms true p′ q′ ys l) where
   below-both : (i : ℕ) → i < u + l → Dec (i < u) → getD (putMid u k v ys) i 0 < count es fs
   below-both i h (yes p) = rw (put-front u k v ys (a .stand .room) i p) (a .stand .below i p)
   below-both i h (no p) =
@@ -61,7 +72,7 @@ module _ {es ns fs ms : List ℤ} {v ys : List ℕ} {u l : ℕ} (k : ℕ) (a : C
 
   some-both : Dec (0 < count es fs) → (0 < u) ⊎ (l ≡ 0)
   some-both (yes h) = inl (chain-some (listed-at es ns fs ms false v) u (a .chain) h)
-  some-both (no h) = inr (omega (arith, b .few))
+  some-both (no h) = inr (chain-none (listed-at es ns fs ms true ys) l (b .chain) h)
 
   pub chained-both : Both (count es fs) (putMid u k v ys) u l
   chained-both = record { stand = stand-both; some = some-both (decLt 0 (count es fs)) }
@@ -78,5 +89,5 @@ module _ {es ns fs ms : List ℤ} {v ys : List ℕ} {u l : ℕ} (k : ℕ) (a : C
       ≡ closed (listed (upper-at es ns fs ms (putMid u k v ys) u) u) (listed (lower-at es ns fs ms (putMid u k v ys) u) l)
   unfolding join
   chained-ring r = chains-ring (both es ns fs ms) (upper-at es ns fs ms (putMid u k v ys) u) u (lower-at es ns fs ms (putMid u k v ys) u) l
-      (rw (both-length r) (subst (UpperChain (All (sample (both es ns fs ms)) (count es fs))) upper-same (a .chain)))
-      (rw (both-length r) (subst (UpperChain (All (λ j. mirrored (sample (both es ns fs ms) j)) (count es fs))) lower-same (b .chain)))
+      (rw (both-length r) (subst (UpperChain (Upto (sample (both es ns fs ms)) (count es fs))) upper-same (a .chain)))
+      (rw (both-length r) (subst (UpperChain (Upto (λ j. mirrored (sample (both es ns fs ms) j)) (count es fs))) lower-same (b .chain)))

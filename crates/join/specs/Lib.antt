@@ -1,2 +1,3 @@
+pub mod RingWays
+pub mod TwoWays
 pub mod ChainsClosed
-pub mod Passed

@@ -3,3 +3,4 @@ pub mod Count
 pub mod Cut
 pub mod Scanned
 pub mod Stretch
+pub mod LowerPlaces

@@ -52,7 +52,7 @@ east-at r i = sample r i .east
 
 -- ---- chains by places
 
-goes-rises : {S : Samples} {p : Stream} {C : List Stream} → Goes S p C → (i : ℕ) → i < length C → sample (p ∷ C) i .east <ℤ sample (p ∷ C) (suc i) .east
+pub goes-rises : {S : Samples} {p : Stream} {C : List Stream} → Goes S p C → (i : ℕ) → i < length C → sample (p ∷ C) i .east <ℤ sample (p ∷ C) (suc i) .east
 goes-rises (stop h) i l = absurd (omega arith)
 goes-rises (on e t g) zero l = e .ahead
 goes-rises (on e t g) (suc i) l = goes-rises g i (omega arith)

@@ -23,7 +23,7 @@ half true xs = map turned (upper (map turned xs))
 abbrev pub around : List Stream → List Stream → List Stream
 around U R = U ++ leave-last (first-of U) (leave-first (last-of U) R)
 
-back-half : (xs : List Stream) → half true xs ≡ reverse (lower xs)
+pub back-half : (xs : List Stream) → half true xs ≡ reverse (lower xs)
 back-half xs =
     ap (map turned) (upper-turned xs) ∙ map-reverse turned (map turned (lower xs)) ∙ ap reverse (map-twice turned turned-twice (lower xs))
 

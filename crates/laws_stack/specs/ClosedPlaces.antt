@@ -20,7 +20,7 @@ use Rattle.laws_outline.specs.Under.{Through}
 use Rattle.laws_outline.specs.Chains.{upper-only}
 use Rattle.laws_outline.specs.SameOutline.{lower-only, same-samples}
 use Rattle.laws_stack.specs.Places.{listed, back, reverse-listed, back-listed, listed-alike, listed-both, map-listed}
-use Rattle.laws_stack.specs.DrawnWalk.{All}
+use Rattle.laws_stack.specs.Stack.{Upto}
 
 -- ---- the ends of a list by its places
 
@@ -145,27 +145,27 @@ closes-ring {f} {u} {g} {lo} {hi} c =
 -- ---- the two chains of the samples xs, by their places, close to the ring of xs
 
 module _ (xs : List Stream) where
-  sample-in : {s : Stream} → List·Memᴰ s xs → All (sample xs) (length xs) s
+  sample-in : {s : Stream} → List·Memᴰ s xs → Upto (sample xs) (length xs) s
   sample-in m = in-place xs (stream (pos 0) (pos 0)) m
 
-  in-sample : {s : Stream} → All (sample xs) (length xs) s → List·Memᴰ s xs
+  in-sample : {s : Stream} → Upto (sample xs) (length xs) s → List·Memᴰ s xs
   in-sample (j, l, e) = subst (λ (t : Stream). List·Memᴰ t xs) (sym e) (at-place-in xs j (stream (pos 0) (pos 0)) l)
 
-  chain-above : {C : List Stream} → UpperChain (All (sample xs) (length xs)) C → upper xs ≡ C
+  chain-above : {C : List Stream} → UpperChain (Upto (sample xs) (length xs)) C → upper xs ≡ C
   chain-above h = upper-only (same-samples (λ s a. in-sample a) (λ s m. sample-in m) h)
 
-  chain-below : (g : ℕ → Stream) (l : ℕ) → UpperChain (All (λ k. mirrored (sample xs k)) (length xs)) (listed (λ i. mirrored (g i)) l) → lower xs ≡ listed g l
+  chain-below : (g : ℕ → Stream) (l : ℕ) → UpperChain (Upto (λ k. mirrored (sample xs k)) (length xs)) (listed (λ i. mirrored (g i)) l) → lower xs ≡ listed g l
   chain-below g l h =
       lower-only (same-samples to from h) ∙ map-listed mirrored (λ i. mirrored (g i)) l
       ∙ listed-alike (λ i. mirrored (mirrored (g i))) g l (λ i p. mirrored-twice (g i))
     where
-      to : (s : Stream) → All (λ k. mirrored (sample xs k)) (length xs) s → Through mirrored (Of xs) s
+      to : (s : Stream) → Upto (λ k. mirrored (sample xs k)) (length xs) s → Through mirrored (Of xs) s
       to s a = in-sample (a .0, a .1, ap mirrored (a .2) ∙ mirrored-twice (sample xs (a .0)))
 
-      from : (s : Stream) → Through mirrored (Of xs) s → All (λ k. mirrored (sample xs k)) (length xs) s
+      from : (s : Stream) → Through mirrored (Of xs) s → Upto (λ k. mirrored (sample xs k)) (length xs) s
       from s m = let a = sample-in m in (a .0, a .1, sym (mirrored-twice s) ∙ ap mirrored (a .2))
 
-  pub chains-ring : (f : ℕ → Stream) (u : ℕ) (g : ℕ → Stream) (l : ℕ) → UpperChain (All (sample xs) (length xs)) (listed f u)
-      → UpperChain (All (λ k. mirrored (sample xs k)) (length xs)) (listed (λ i. mirrored (g i)) l) → ring xs ≡ closed (listed f u) (listed g l)
+  pub chains-ring : (f : ℕ → Stream) (u : ℕ) (g : ℕ → Stream) (l : ℕ) → UpperChain (Upto (sample xs) (length xs)) (listed f u)
+      → UpperChain (Upto (λ k. mirrored (sample xs k)) (length xs)) (listed (λ i. mirrored (g i)) l) → ring xs ≡ closed (listed f u) (listed g l)
   unfolding ring
   chains-ring f u g l a b = ap₂ closed (chain-above a) (chain-below g l b)

@@ -1,150 +1,21 @@
--- Both rings walked together from west to east: what is left of their places, the westmost place drawn from what is left, and the stack over the corners
--- that were drawn. Assumes nothing.
-use mathlib.Core.Path.{_≡_, sym, ap, _∙_, subst}
+-- Two ways walked together from west to east: the next corner of the one that is further west is drawn, and comes to the stack of those that were.
+-- Assumes nothing.
+use mathlib.Core.Path.{_≡_, sym, subst, subst₂}
 use mathlib.Core.Logic.{_⊎_, inl, inr, ⊎-elim}
 use mathlib.Core.Bool.{true}
-use Prim.Native.Nat.{ℕ, suc, _+_, _-_, _≤_, _<_}
-use native.Mathlib.Decide.{ℕ-discrete}
+use Prim.Native.Nat.{ℕ, suc, _+_, _≤_, _<_}
+use native.Mathlib.Numerals.{add-one}
 use native.Mathlib.Omega.{arith}
-use lib.IntN.{ℤ}
-use lib.Signed.{_≤ℤ_}
+use lib.Signed.{_≤ℤ_, ≤ℤ-refl}
 use Rattle.whole.specs.Laws.{≤ℤ-trans}
 use Rattle.rules.specs.Streams.{Stream}
 use Rattle.rules.specs.Chain.{Samples, UpperChain}
 use Rattle.laws_outline.specs.Under.{Under}
-use Rattle.laws_stack.specs.Places.{listed}
+use Rattle.laws_outline.specs.SameOutline.{same-outline}
+use Rattle.laws_stack.specs.Places.{below-or-last, listed}
 use Rattle.laws_stack.specs.Stack.{With, Before, Upto, stays, Stack, stack-same, stack-none, stack-skip, stack-put, stack-chain}
-use Rattle.laws_stack.specs.Hills.{Hill}
 
--- ---- what is left
-
--- the places from lo to before hi
-abbrev pub Range : ℕ → ℕ → ℕ → Type 0
-Range lo hi j = (lo ≤ j) × (j < hi)
-
--- of both rings
-abbrev pub Left : ℕ → ℕ → ℕ → ℕ → ℕ → Type 0
-Left a b c d j = Range a b j ⊎ Range c d j
-
--- the places R' are those of R without k
-pub record Without (R : ℕ → Type 0) (k : ℕ) (R' : ℕ → Type 0) : Type 0 where
-  pub inside : R k
-  pub fewer : (j : ℕ) → R' j → R j
-  pub gone : R' k → ⊥
-  pub others : (j : ℕ) → R j → ¬ (j ≡ k) → R' j
-
--- k is drawn from the places lo to hi, which leaves lo' to hi'
-pub record Took (lo hi k lo' hi' : ℕ) : Type 0 where
-  pub without : Without (Range lo hi) k (Range lo' hi')
-  pub span : lo' ≤ hi'
-  pub low : lo ≤ lo'
-  pub high : hi' ≤ hi
-  pub one : hi - lo ≡ suc (hi' - lo')
-
--- the first place, or the last
-pub took-first : {lo hi : ℕ} → lo < hi → Took lo hi lo (suc lo) hi
-took-first h = record {
-  without = record { inside = omega arith; fewer = λ j r. omega arith; gone = λ r. omega arith; others = λ j r f. omega arith };
-  span = h;
-  low = omega arith;
-  high = omega arith;
-  one = omega arith;
-}
-
-pub took-last : {lo k : ℕ} → lo ≤ k → Took lo (suc k) k lo k
-took-last h = record {
-  without = record { inside = omega arith; fewer = λ j r. omega arith; gone = λ r. omega arith; others = λ j r f. omega arith };
-  span = h;
-  low = omega arith;
-  high = omega arith;
-  one = omega arith;
-}
-
--- k is drawn from the places a to b of the one ring and c to d of the other, which leaves a' to b' and c' to d'
-pub record Draws (a b c d k a' b' c' d' : ℕ) : Type 0 where
-  pub without : Without (Left a b c d) k (Left a' b' c' d')
-  pub span : a' ≤ b'
-  pub span2 : c' ≤ d'
-  pub low : a ≤ a'
-  pub high : b' ≤ b
-  pub low2 : c ≤ c'
-  pub high2 : d' ≤ d
-  pub one : b - a + (d - c) ≡ suc (b' - a' + (d' - c'))
-
-module _ {R R' Q : ℕ → Type 0} {k : ℕ} (o : Without R k R') (apart : Q k → ⊥) where
-  without-one : Without (λ j. R j ⊎ Q j) k (λ j. R' j ⊎ Q j)
-  without-one =
-      record {
-        inside = inl (o .inside);
-        fewer = λ j. ⊎-elim (λ r. inl (o .fewer j r)) inr;
-        gone = ⊎-elim (o .gone) apart;
-        others = λ j m f. ⊎-elim (λ r. inl (o .others j r f)) inr m;
-      }
-
-  without-other : Without (λ j. Q j ⊎ R j) k (λ j. Q j ⊎ R' j)
-  without-other =
-      record {
-        inside = inr (o .inside);
-        fewer = λ j. ⊎-elim inl (λ r. inr (o .fewer j r));
-        gone = ⊎-elim apart (o .gone);
-        others = λ j m f. ⊎-elim inl (λ r. inr (o .others j r f)) m;
-      }
-
-pub draws-one : {a b c d k a' b' : ℕ} → b ≤ c → c ≤ d → Took a b k a' b' → Draws a b c d k a' b' c d
-draws-one {c} {d} gap l t = record {
-  without = without-one (t .without) (λ r. let i = t .without .inside in omega arith);
-  span = t .span;
-  span2 = l;
-  low = t .low;
-  high = t .high;
-  low2 = omega arith;
-  high2 = omega arith;
-  one = omega arith;
-}
-
-pub draws-other : {a b c d k c' d' : ℕ} → a ≤ b → b ≤ c → Took c d k c' d' → Draws a b c d k a b c' d'
-draws-other {a} {b} l gap t = record {
-  without = without-other (t .without) (λ r. let i = t .without .inside in omega arith);
-  span = l;
-  span2 = t .span;
-  low = omega arith;
-  high = omega arith;
-  low2 = t .low;
-  high2 = t .high;
-  one = omega arith;
-}
-
--- ---- the westmost place: at either end of a hill
-
-pub record Westmost (E : ℕ → ℤ) (R : ℕ → Type 0) (k : ℕ) : Type 0 where
-  pub least : (j : ℕ) → R j → E k ≤ℤ E j
-
-module _ {E : ℕ → ℤ} {lo hi : ℕ} (s : lo < hi) (h : Hill E lo hi) where
-  ends-least : (j : ℕ) → Range lo hi j → (E lo ≤ℤ E j) ⊎ (E (hi - 1) ≤ℤ E j)
-  ends-least j r = h .no-valley lo j (hi - 1) (omega arith) (omega arith) (omega arith) (omega arith)
-
-  pub westmost-first : E lo ≤ℤ E (hi - 1) → Westmost E (Range lo hi) lo
-  westmost-first e = record { least = λ j r. ⊎-elim (λ p. p) (λ p. ≤ℤ-trans e p) (ends-least j r) }
-
-  pub westmost-last : E (hi - 1) ≤ℤ E lo → Westmost E (Range lo hi) (hi - 1)
-  westmost-last e = record { least = λ j r. ⊎-elim (λ p. ≤ℤ-trans e p) (λ p. p) (ends-least j r) }
-
--- of two
-module _ {E : ℕ → ℤ} {R Q : ℕ → Type 0} where
-  pub westmost-one : {x y : ℕ} → Westmost E R x → Westmost E Q y → E x ≤ℤ E y → Westmost E (λ j. R j ⊎ Q j) x
-  westmost-one h k e = record { least = λ j. ⊎-elim (h .least j) (λ q. ≤ℤ-trans e (k .least j q)) }
-
-  pub westmost-other : {x y : ℕ} → Westmost E R x → Westmost E Q y → E y ≤ℤ E x → Westmost E (λ j. R j ⊎ Q j) y
-  westmost-other h k e = record { least = λ j. ⊎-elim (λ r. ≤ℤ-trans e (h .least j r)) (k .least j) }
-
-  -- where nothing is left of the other
-  pub westmost-one-left : {x : ℕ} → Westmost E R x → ((j : ℕ) → Q j → ⊥) → Westmost E (λ j. R j ⊎ Q j) x
-  westmost-one-left h none = record { least = λ j. ⊎-elim (h .least j) (λ q. absurd (none j q)) }
-
-  pub westmost-other-left : {y : ℕ} → Westmost E Q y → ((j : ℕ) → R j → ⊥) → Westmost E (λ j. R j ⊎ Q j) y
-  westmost-other-left k none = record { least = λ j. ⊎-elim (λ r. absurd (none j r)) (k .least j) }
-
--- ---- the stack over the corners that were drawn
+-- ---- a corner comes to the stack
 
 -- s comes to a stack of t corners f, and leaves one of r corners g
 pub data Comes (f : ℕ → Stream) (t : ℕ) (s : Stream) : (ℕ → Stream) → ℕ → Type 0 where
@@ -158,41 +29,95 @@ stack-comes : {S : Samples} {f g : ℕ → Stream} {t r : ℕ} {s : Stream} → 
 stack-comes k (skips i l e n) = stack-skip k l e n
 stack-comes k (tops l h e u same new) = stack-put k l h e u same new
 
-module _ (P : ℕ → Stream) (n : ℕ) where
-  -- the corners at all places, and at those that are not left
-  abbrev pub All : Samples
-  All s = (j : ℕ) × (j < n) × (s ≡ P j)
+-- ---- two ways, f over m corners and g over n
 
-  abbrev pub Seen : (ℕ → Type 0) → Samples
-  Seen R s = (j : ℕ) × (j < n) × (R j → ⊥) × (s ≡ P j)
+module _ (f : ℕ → Stream) (m : ℕ) (g : ℕ → Stream) (n : ℕ) where
+  -- i corners of the one and j of the other
+  abbrev pub Seen : ℕ → ℕ → Samples
+  Seen i j s = Upto f i s ⊎ Upto g j s
 
-  -- R is left; no corner that was seen is further east than one that is left, and the stack is over those seen
-  pub record Walk (R : ℕ → Type 0) (f : ℕ → Stream) (t : ℕ) : Type 0 where
-    pub west : (s : Stream) → Seen R s → (j : ℕ) → R j → s .east ≤ℤ P j .east
-    pub stack : Stack (Seen R) f t
+  -- both go east
+  pub record East : Type 0 where
+    pub one : (i : ℕ) → suc i < m → f i .east ≤ℤ f (suc i) .east
+    pub other : (j : ℕ) → suc j < n → g j .east ≤ℤ g (suc j) .east
 
-  pub walk-start : {R : ℕ → Type 0} {f : ℕ → Stream} → ((j : ℕ) → j < n → R j) → Walk R f 0
-  walk-start all = record { west = λ s m j r. absurd (m .2 (all (m .0) (m .1))); stack = stack-none (λ s m. m .2 (all (m .0) (m .1))) }
+  -- s is drawn after i and j corners, which makes i' and j'
+  pub data Draws (i j : ℕ) : Stream → ℕ → ℕ → Type 0 where
+    from-one : i < m → (j < n → f i .east ≤ℤ g j .east) → Draws i j (f i) (i + 1) j
+    from-other : j < n → (i < m → g j .east ≤ℤ f i .east) → Draws i j (g j) i (j + 1)
 
-  pub walk-on : {R R' : ℕ → Type 0} {f g : ℕ → Stream} {t r k : ℕ} → Walk R f t → k < n → Without R k R' → Westmost (λ j. P j .east) R k
-      → Comes f t (P k) g r → Walk R' g r
-  walk-on {R} {R'} {k} w l o m c =
-      record { west = λ s h j r'. ordered s (from s h) j (o .fewer j r'); stack = stack-same to from (stack-comes (w .stack) c) }
-    where
-      to : (s : Stream) → With (Seen R) (P k) s → Seen R' s
-      to s (inl h) = (h .0, h .1, (λ r'. h .2 (o .fewer (h .0) r')), h .3)
-      to s (inr q) = (k, l, o .gone, q)
+  -- no corner that was seen is further east than one that is left, and the stack is over those seen
+  pub record Walk (i j : ℕ) (h : ℕ → Stream) (t : ℕ) : Type 0 where
+    pub inside : i ≤ m
+    pub inside2 : j ≤ n
+    pub west : i < m → (s : Stream) → Seen i j s → s .east ≤ℤ f i .east
+    pub west2 : j < n → (s : Stream) → Seen i j s → s .east ≤ℤ g j .east
+    pub stack : Stack (Seen i j) h t
 
-      from : (s : Stream) → Seen R' s → With (Seen R) (P k) s
-      from s h = go (ℕ-discrete (h .0) k)
-        where
-          go : Dec (h .0 ≡ k) → With (Seen R) (P k) s
-          go (yes q) = inr (h .3 ∙ ap P q)
-          go (no f) = inl (h .0, h .1, (λ r. h .2 (o .others (h .0) r f)), h .3)
+  none : (s : Stream) → Seen 0 0 s → ⊥
+  none s (inl u) = let l = u .1 in omega arith
+  none s (inr u) = let l = u .1 in omega arith
 
-      ordered : (s : Stream) → With (Seen R) (P k) s → (j : ℕ) → R j → s .east ≤ℤ P j .east
-      ordered s (inl h) j r = w .west s h j r
-      ordered s (inr q) j r = subst (λ (x : Stream). x .east ≤ℤ P j .east) (sym q) (m .least j r)
+  pub walk-start : {h : ℕ → Stream} → Walk 0 0 h 0
+  walk-start = record {
+    inside = omega arith;
+    inside2 = omega arith;
+    west = λ l s u. absurd (none s u);
+    west2 = λ l s u. absurd (none s u);
+    stack = stack-none none;
+  }
 
-  pub walk-end : {R : ℕ → Type 0} {f : ℕ → Stream} {t : ℕ} → ((j : ℕ) → R j → ⊥) → Walk R f t → UpperChain All (listed f t)
-  walk-end {t} none w = stack-chain t (stack-same (λ s h. (h .0, h .1, h .3)) (λ s h. (h .0, h .1, none (h .0), h .2)) (w .stack))
+  module _ {i j : ℕ} {h : ℕ → Stream} {t : ℕ} (w : Walk i j h t) where
+    -- every corner on the stack is as far west as the one that is drawn
+    pub walk-next : {s : Stream} {i' j' : ℕ} → Draws i j s i' j' → (k : ℕ) → k < t → h k .east ≤ℤ s .east
+    walk-next (from-one l p) k b = w .west l (h k) (w .stack .given k b)
+    walk-next (from-other l p) k b = w .west2 l (h k) (w .stack .given k b)
+
+    -- one more of the one, or of the other
+    to-one : (s : Stream) → With (Seen i j) (f i) s → Seen (suc i) j s
+    to-one s (inl (inl u)) = inl (u .0, (let l = u .1 in omega arith), u .2)
+    to-one s (inl (inr u)) = inr u
+    to-one s (inr e) = inl (i, omega arith, e)
+
+    of-one : (s : Stream) → Seen (suc i) j s → With (Seen i j) (f i) s
+    of-one s (inl (k, l, e)) = ⊎-elim (λ b. inl (inl (k, b, e))) (λ q. inr (subst (λ (x : ℕ). s ≡ f x) q e)) (below-or-last l)
+    of-one s (inr u) = inl (inr u)
+
+    to-other : (s : Stream) → With (Seen i j) (g j) s → Seen i (suc j) s
+    to-other s (inl (inl u)) = inl u
+    to-other s (inl (inr u)) = inr (u .0, (let l = u .1 in omega arith), u .2)
+    to-other s (inr e) = inr (j, omega arith, e)
+
+    of-other : (s : Stream) → Seen i (suc j) s → With (Seen i j) (g j) s
+    of-other s (inl u) = inl (inl u)
+    of-other s (inr (k, l, e)) = ⊎-elim (λ b. inl (inr (k, b, e))) (λ q. inr (subst (λ (x : ℕ). s ≡ g x) q e)) (below-or-last l)
+
+    -- what was seen and p, no further east than q
+    as-far : {p : Stream} (q : Stream) → ((s : Stream) → Seen i j s → s .east ≤ℤ q .east) → p .east ≤ℤ q .east → (s : Stream) → With (Seen i j) p s
+        → s .east ≤ℤ q .east
+    as-far q seen e s (inl u) = seen s u
+    as-far q seen e s (inr d) = subst (λ (x : Stream). x .east ≤ℤ q .east) (sym d) e
+
+    pub walk-on : East → {s : Stream} {i' j' : ℕ} {h' : ℕ → Stream} {t' : ℕ} → Draws i j s i' j' → Comes h t s h' t' → Walk i' j' h' t'
+    walk-on o (from-one l p) c = rw (add-one i) record {
+      inside = l;
+      inside2 = w .inside2;
+      west = λ b s u. ≤ℤ-trans (as-far (f i) (w .west l) (≤ℤ-refl (f i .east)) s (of-one s u)) (o .one i b);
+      west2 = λ b s u. as-far (g j) (w .west2 b) (p b) s (of-one s u);
+      stack = stack-same to-one of-one (stack-comes (w .stack) c);
+    }
+    walk-on o (from-other l p) c = rw (add-one j) record {
+      inside = w .inside;
+      inside2 = l;
+      west = λ b s u. as-far (f i) (w .west b) (p b) s (of-other s u);
+      west2 = λ b s u. ≤ℤ-trans (as-far (g j) (w .west2 l) (≤ℤ-refl (g j .east)) s (of-other s u)) (o .other j b);
+      stack = stack-same to-other of-other (stack-comes (w .stack) c);
+    }
+
+    -- the chain of samples that are all under both ways
+    pub walk-end : {S : Samples} → ((s : Stream) → Seen m n s → S s) → ((s : Stream) → S s → Under (Seen m n) s) → m + n ≤ i + j
+        → UpperChain S (listed h t)
+    walk-end given under l =
+        let p : i ≡ m = let a = w .inside in let b = w .inside2 in omega arith in
+        let q : j ≡ n = let a = w .inside in let b = w .inside2 in omega arith in
+        same-outline given under (stack-chain t (subst₂ (λ (x y : ℕ). Stack (Seen x y) h t) p q (w .stack)))

@@ -1,5 +1,4 @@
 pub mod Places
 pub mod Stack
-pub mod Hills
 pub mod DrawnWalk
 pub mod ClosedPlaces

@@ -1,5 +1,5 @@
 -- The sum from its two halves: what the scans find, what is left in, and what is written of them. Assumes nothing.
-use mathlib.Core.Path.{_≡_, sym, ap, ap₂, _∙_, subst₂, fun-ext}
+use mathlib.Core.Path.{_≡_, sym, ap, ap₂, _∙_}
 use mathlib.Core.Bool.{Bool, true, false, cond, _&&_, and-false}
 use mathlib.Core.List.{List, _++_, map, map-append}
 use Prim.Native.Nat.{ℕ, _+_, _-_, _≤_, _<_}
@@ -11,26 +11,22 @@ use lib.Seq.{slice, length-slice, take-all}
 use borrow.Author.Tests.{lt-ltb, le-ltb}
 use borrow.Rule.Slice.PartMut.{putMid}
 use Rattle.rules.specs.Lists.{written}
-use Rattle.rules.specs.Streams.{Stream, streams, most}
+use Rattle.rules.specs.Streams.{Stream, streams}
 use Rattle.rules.specs.Use.{sum}
 use Rattle.laws_rings.specs.Halves.{half, around}
 use Rattle.laws_halves.specs.Closing.{LeftIn, around-left, left-in-order}
-use Rattle.laws_halves.specs.Scanned.{HalfAt, Scanned, east-at, scanned-halves}
+use Rattle.laws_halves.specs.Scanned.{HalfAt, Scanned}
 use Rattle.laws_halves.specs.Stretch.{stretch-count, half-stretch}
 use Rattle.laws_sums.specs.Merge.{merge, merge-ends}
 use Rattle.laws_sums.specs.TwoMerges.{sum-merges}
 use Rattle.samples.specs.Positions.{east-of}
-use Rattle.samples.specs.Samples.{streams-length, sample-at}
+use Rattle.samples.specs.Samples.{streams-length}
 use Rattle.envelope.specs.Tests.{Sound}
+use Rattle.envelope.specs.TwoRings.{Rings}
 use Rattle.envelope.specs.Writes.{two-written}
+use Rattle.halves.specs.Found.{found-halves}
 use Rattle.sum.specs.declared.follow.Stretch.{Stretch}
 use Rattle.sum.specs.Stretches.{On, Both, stretch-of, merged}
-
--- two envelopes, of not too many corners together
-pub record Addends (es ns fs ms : List ℤ) : Type 0 where
-  pub first : Sound es ns
-  pub second : Sound fs ms
-  pub few : length es + length fs ≤ most
 
 -- a stretch as the code holds it
 abbrev pub held : ℕ → ℕ → Stretch
@@ -42,12 +38,8 @@ module _ {es ns : List ℤ} {k c n : ℕ} (o : Sound es ns) (some : 0 < length e
   count : length (streams es ns) ≡ length es
   count = streams-length es ns (o .sampled .even)
 
-  -- the easts of the ring are those of the list
-  easts-are : east-at (streams es ns) ≡ east-of es
-  easts-are = fun-ext (λ i. ap (λ (s : Stream). s .east) (sample-at es ns (o .sampled .even) i))
-
-  pub halves : HalfAt false (streams es ns) 0 k × HalfAt true (streams es ns) c n
-  halves = scanned-halves (o .is-envelope) (subst₂ (λ (E : ℕ → ℤ) (m : ℕ). Scanned E m k c n) (sym easts-are) (sym count) s)
+  halves : HalfAt false (streams es ns) 0 k × HalfAt true (streams es ns) c n
+  halves = found-halves (o .sampled) (o .is-envelope) s
 
   on-half : {back : Bool} {from sides : ℕ} → HalfAt back (streams es ns) from sides → On es ns (held from sides)
   on-half h = record { sampled = o .sampled; some = some; within = omega (arith, h .within, count) }
@@ -66,7 +58,7 @@ module _ {es ns : List ℤ} {k c n : ℕ} (o : Sound es ns) (some : 0 < length e
 
 -- ---- two rings
 
-module _ {es ns fs ms : List ℤ} (p : Addends es ns fs ms) (some : 0 < length es) (some2 : 0 < length fs) {k c n k′ c′ n′ : ℕ} (s : Scanned (east-of es) (length es) k c n)
+module _ {es ns fs ms : List ℤ} (p : Rings es ns fs ms) (some : 0 < length es) (some2 : 0 < length fs) {k c n k′ c′ n′ : ℕ} (s : Scanned (east-of es) (length es) k c n)
     (t : Scanned (east-of fs) (length fs) k′ c′ n′) where
   abbrev there : List Stream
   there = merged es ns fs ms (held 0 k) (held 0 k′)

@@ -8,7 +8,7 @@ ghost use Rattle.rules.specs.Use.{sum};
 ghost use Rattle.rules.specs.Entries.{sum-answer};
 ghost use Rattle.samples.specs.declared.answers.Counted.the-variants.{Count};
 ghost use Rattle.closing.specs.RingPromise.{unless-short, Outcome};
-ghost use Rattle.sum.specs.Whole.{Addends};
+ghost use Rattle.envelope.specs.TwoRings.{Rings};
 use crate::reach::too_far;
 use crate::writing::write_sum;
 use envelope::test::of_ring;
@@ -24,7 +24,7 @@ mod writing;
 
 // A corner of the sum is beyond the limit. Where a ring is empty the sum has none.
 fn reaches_beyond(east: &[i32], north: &[i32], east2: &[i32], north2: &[i32]) -> bool
-    requires { ⌜ Addends (now east) (now north) (now east2) (now north2) ⌝ }
+    requires { ⌜ Rings (now east) (now north) (now east2) (now north2) ⌝ }
     ensures { λ r. ⌜ r ≡ some-of beyond (sum (streams (now (east .entry)) (now (north .entry))) (streams (now (east2 .entry)) (now (north2 .entry)))) ⌝ }
 {
     if east.len() == 0 {
@@ -54,7 +54,7 @@ fn write(
     out_north: &mut [i32],
     scratch: &mut [u32],
 ) -> Counted
-    requires { ⌜ Addends (now east) (now north) (now east2) (now north2) ⌝ }
+    requires { ⌜ Rings (now east) (now north) (now east2) (now north2) ⌝ }
     ensures { λ r. ⌜ Outcome
         (unless-short (now («out_east» .entry)) (now («out_north» .entry))
         (sum (streams (now (east .entry)) (now (north .entry))) (streams (now (east2 .entry)) (now (north2 .entry)))))

@@ -9,7 +9,7 @@ ghost use Rattle.rules.specs.Use.{sum};
 ghost use Rattle.laws_halves.specs.Closing.{LeftIn};
 ghost use Rattle.closing.specs.RingPromise.{unless-short, Outcome};
 ghost use Rattle.sum.specs.Stretches.{Both, merged, last-corner};
-ghost use Rattle.sum.specs.Whole.{Addends};
+ghost use Rattle.envelope.specs.TwoRings.{Rings};
 use crate::follow::Stretch;
 use crate::follow::count;
 use crate::follow::first_of;
@@ -92,7 +92,7 @@ pub fn write_sum(
     out_north: &mut [i32],
     scratch: &mut [u32],
 ) -> Counted
-    requires { ⌜ Addends (now east) (now north) (now east2) (now north2) × (0 < length (now east)) × (0 < length (now east2)) ⌝ }
+    requires { ⌜ Rings (now east) (now north) (now east2) (now north2) × (0 < length (now east)) × (0 < length (now east2)) ⌝ }
     ensures { λ r. ⌜ Outcome
         (unless-short (now («out_east» .entry)) (now («out_north» .entry))
         (sum (streams (now (east .entry)) (now (north .entry))) (streams (now (east2 .entry)) (now (north2 .entry)))))

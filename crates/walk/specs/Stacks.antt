@@ -1,11 +1,10 @@
--- The stack at the front of a list of places, as the code keeps it: a corner put on top, and the walk over all corners, from its start to its end.
+-- The stack at the front of a list of places, as the code keeps it: a corner put on top, and the walk over two ways, from its start to its end.
 -- Assumes nothing.
 use mathlib.Core.Path.{_≡_, sym, ap, _∙_, subst}
 use mathlib.Core.Logic.{_⊎_, inl, inr}
 use mathlib.Core.Bool.{Bool, true}
 use mathlib.Core.List.{List}
 use Prim.Native.Nat.{ℕ, suc, _+_, _-_, _≤_, _<_}
-use native.Mathlib.Decide.{decLt}
 use native.Mathlib.Omega.{arith}
 use lib.IntN.{ℤ}
 use lib.ListN.{length, getD, set, length-set}
@@ -13,9 +12,10 @@ use lib.Seq.{getD-set-same, getD-set-other}
 use Rattle.rules.specs.Streams.{Stream}
 use Rattle.laws_stack.specs.Places.{below-or-last}
 use Rattle.laws_stack.specs.Stack.{Before}
-use Rattle.laws_stack.specs.Hills.{hill-inside}
-use Rattle.laws_stack.specs.DrawnWalk.{Left, Comes, skips, tops, walk-start, walk-on, walk-end}
-use Rattle.walk.specs.TwoRings.{Rings, count, corner-at, listed-at, Spans, Drawn, Stand, Settled, Next, Hides, Taken, Walking, Chained}
+use Rattle.laws_stack.specs.DrawnWalk.{Comes, skips, tops, walk-start, walk-next, walk-on, walk-end}
+use Rattle.walk.specs.declared.draw.Way.{Way}
+use Rattle.walk.specs.TwoRings.{count, corner-at, listed-at, Stand, Settled, Next, Hides, Taken}
+use Rattle.walk.specs.Ways.{first-way, second-way, way-corner, Ways, Stands, Drawn, Walking, Chained}
 
 -- k at place t of w
 module _ (w : List ℕ) (t k : ℕ) (room : t < length w) where
@@ -57,67 +57,36 @@ module _ {es ns fs ms : List ℤ} {lower : Bool} where
 
   -- ---- the walk
 
-  pub walking-start : {w : List ℕ} → Walking es ns fs ms lower w 0 (length es) (length es) (count es fs) 0 0
-  walking-start = record {
-    span = omega arith;
-    high = omega arith;
-    low2 = omega arith;
-    span2 = omega arith;
-    high2 = omega arith;
-    left = omega arith;
-    few = omega arith;
-    stand = record { room = omega arith; below = λ i l. absurd (omega arith) };
-    walk = walk-start (corner-at es ns fs ms lower) (count es fs) (λ j l. go j l (decLt j (length es)));
-  }
-    where
-      go : (j : ℕ) → j < count es fs → Dec (j < length es) → Left 0 (length es) (length es) (count es fs) j
-      go j l (yes h) = inl (omega arith)
-      go j l (no h) = inr (omega arith)
-
-  module _ {w : List ℕ} {a b c d top i : ℕ} (h : Walking es ns fs ms lower w a b c d top i) where
-    pub walking-spans : Rings es ns fs ms → i < count es fs → Spans es ns fs ms a b c d
-    walking-spans r l = record {
-      span = h .span;
-      gap = omega arith;
-      span2 = h .span2;
-      inside = h .high2;
-      some = omega arith;
-      hill = hill-inside (r .hill) (omega arith) (h .high);
-      hill2 = hill-inside (r .hill2) (h .low2) (h .high2);
-    }
-
-    pub walking-below : {k : ℕ} → Left a b c d k → k < count es fs
-    walking-below (inl r) = omega arith
-    walking-below (inr r) = omega arith
-
-    -- a corner that is left comes next
-    pub walking-next : {k : ℕ} → Left a b c d k → Next (listed-at es ns fs ms lower w) top (corner-at es ns fs ms lower k)
-    walking-next {k} m = record {
-      stacked = h .walk .stack .stacked;
-      west = λ j l. h .walk .west (listed-at es ns fs ms lower w j) (h .walk .stack .given j l) k m;
-    }
-
-    pub walking-on : {k a' b' c' d' r : ℕ} {w' : List ℕ} → Drawn es ns fs ms a b c d k a' b' c' d' → Taken es ns fs ms lower w top k w' r
-        → Walking es ns fs ms lower w' a' b' c' d' r (i + 1)
-    walking-on q t = record {
-      span = q .draws .span;
-      high = omega arith;
-      low2 = omega arith;
-      span2 = q .draws .span2;
-      high2 = omega arith;
-      left = omega arith;
+  module _ {a b : Way} where
+    pub walking-start : {w : List ℕ} → Walking es ns fs ms lower a b w 0 0 0
+    walking-start = record {
       few = omega arith;
-      stand = t .stand;
-      walk = walk-on (corner-at es ns fs ms lower) (count es fs) (h .walk) (walking-below (q .draws .without .inside)) (q .draws .without) (q .west) (t .comes);
+      stand = record { room = omega arith; below = λ i l. absurd (omega arith) };
+      walk = walk-start (first-way es ns fs ms lower a) (a .count) (second-way es ns fs ms lower b) (b .count);
     }
 
-    pub walking-end : count es fs ≤ i → Chained es ns fs ms lower w top
-    walking-end l = record {
-      chain = walk-end (corner-at es ns fs ms lower) (count es fs) none (h .walk);
-      stand = h .stand;
-      few = omega arith;
-    }
-      where
-        none : (j : ℕ) → Left a b c d j → ⊥
-        none j (inl r) = omega (arith, h)
-        none j (inr r) = omega (arith, h)
+    module _ {w : List ℕ} {i j top : ℕ} (h : Walking es ns fs ms lower a b w i j top) where
+      pub walking-stands : i + j < a .count + b .count → Stands a b i j
+      walking-stands l = record { inside = h .walk .inside; inside2 = h .walk .inside2; left = l }
+
+      module _ {k i' j' : ℕ} (d : Drawn es ns fs ms lower a b i j k i' j') where
+        -- the corner that is drawn comes next
+        pub walking-next : Next (listed-at es ns fs ms lower w) top (corner-at es ns fs ms lower k)
+        walking-next = record {
+          stacked = h .walk .stack .stacked;
+          west = walk-next (first-way es ns fs ms lower a) (a .count) (second-way es ns fs ms lower b) (b .count) (h .walk) (d .draws);
+        }
+
+        pub walking-on : Ways es ns fs ms lower a b → {r : ℕ} {w' : List ℕ} → Taken es ns fs ms lower w top k w' r → Walking es ns fs ms lower a b w' i' j' r
+        walking-on o t = record {
+          few = omega (arith, h .few, t .more, d .one);
+          stand = t .stand;
+          walk = walk-on (first-way es ns fs ms lower a) (a .count) (second-way es ns fs ms lower b) (b .count) (h .walk) (o .east) (d .draws) (t .comes);
+        }
+
+      pub walking-end : Ways es ns fs ms lower a b → a .count + b .count ≤ i + j → Chained es ns fs ms lower a b w top
+      walking-end o l = record {
+        chain = walk-end (first-way es ns fs ms lower a) (a .count) (second-way es ns fs ms lower b) (b .count) (h .walk) (way-corner o) (o .under) l;
+        stand = h .stand;
+        few = omega (arith, h .few, h .walk .inside, h .walk .inside2);
+      }

@@ -1,7 +1,6 @@
 -- Two rings: their corners at one run of places, the second ring's after the first's, as they are or mirrored; and what the parts of the code
 -- say to each other. Assumes nothing.
 use mathlib.Core.Path.{_≡_}
-use mathlib.Core.Logic.{_⊎_}
 use mathlib.Core.Bool.{Bool, true, false}
 use mathlib.Core.List.{List, _++_}
 use Prim.Native.Nat.{ℕ, suc, _+_, _-_, _≤_, _<_}
@@ -9,13 +8,10 @@ use lib.IntN.{ℤ}
 use lib.Signed.{_≤ℤ_}
 use lib.ListN.{length, getD}
 use Rattle.rules.specs.Streams.{Stream, streams, sample, most}
-use Rattle.rules.specs.Chain.{UpperChain}
 use Rattle.laws_outline.specs.Under.{Under}
 use Rattle.samples.specs.Positions.{facing, Near}
-use Rattle.laws_stack.specs.Places.{listed}
 use Rattle.laws_stack.specs.Stack.{With, Before, Upto, Stacked, stays}
-use Rattle.laws_stack.specs.Hills.{Hill}
-use Rattle.laws_stack.specs.DrawnWalk.{Range, Left, Draws, Westmost, Comes, All, Walk}
+use Rattle.laws_stack.specs.DrawnWalk.{Comes}
 
 -- ---- the corners
 
@@ -32,69 +28,13 @@ pub record Corners (es ns fs ms : List ℤ) : Type 0 where
   pub few : count es fs ≤ most
   pub near : (k : ℕ) → Near (sample (both es ns fs ms) k)
 
--- two rings: their easts go up and then down
-pub record Rings (es ns fs ms : List ℤ) : Type 0 where
-  pub corners : Corners es ns fs ms
-  pub hill : Hill (λ k. sample (both es ns fs ms) k .east) 0 (length es)
-  pub hill2 : Hill (λ k. sample (both es ns fs ms) k .east) (length es) (count es fs)
-
 module _ (es ns fs ms : List ℤ) where
-  abbrev pub east-at : ℕ → ℤ
-  east-at k = sample (both es ns fs ms) k .east
-
   abbrev pub corner-at : Bool → ℕ → Stream
   corner-at lower k = facing lower (sample (both es ns fs ms) k)
 
   -- the corner whose place stands at i in a list of places
   abbrev pub listed-at : Bool → List ℕ → ℕ → Stream
   listed-at lower w i = corner-at lower (getD w i 0)
-
--- ---- what is left of both rings
-
--- an end of the places lo to hi
-abbrev pub End : ℕ → ℕ → ℕ → Type 0
-End lo hi k = (k ≡ lo) ⊎ (suc k ≡ hi)
-
-module _ (es ns fs ms : List ℤ) where
-  -- places lo to hi that are a hill, and not none
-  pub record Span (lo hi : ℕ) : Type 0 where
-    pub some : lo < hi
-    pub inside : hi ≤ count es fs
-    pub hill : Hill (east-at es ns fs ms) lo hi
-
-  -- the westmost of them
-  pub record WestEnd (lo hi k : ℕ) : Type 0 where
-    pub end : End lo hi k
-    pub below : k < hi
-    pub west : Westmost (east-at es ns fs ms) (Range lo hi) k
-
-  -- places a to b of the first ring and c to d of the second, not none of both
-  pub record Spans (a b c d : ℕ) : Type 0 where
-    pub span : a ≤ b
-    pub gap : b ≤ c
-    pub span2 : c ≤ d
-    pub inside : d ≤ count es fs
-    pub some : 0 < b - a + (d - c)
-    pub hill : Hill (east-at es ns fs ms) a b
-    pub hill2 : Hill (east-at es ns fs ms) c d
-
-  -- the westmost of both is drawn
-  pub record Drawn (a b c d k a' b' c' d' : ℕ) : Type 0 where
-    pub draws : Draws a b c d k a' b' c' d'
-    pub west : Westmost (east-at es ns fs ms) (Left a b c d) k
-
--- an end of the first ring's places, or of the second's
-pub record AtFirst (k a b c d : ℕ) : Type 0 where
-  pub some : a < b
-  pub gap : b ≤ c
-  pub rest : c ≤ d
-  pub end : End a b k
-
-pub record AtSecond (k a b c d : ℕ) : Type 0 where
-  pub rest : a ≤ b
-  pub gap : b ≤ c
-  pub some : c < d
-  pub end : End c d k
 
 -- ---- a stack of corners: the places of t of them at the front of a list
 
@@ -129,21 +69,3 @@ module _ (es ns fs ms : List ℤ) (lower : Bool) where
     pub comes : Comes (listed-at es ns fs ms lower w) t (corner-at es ns fs ms lower k) (listed-at es ns fs ms lower w') r
     pub stand : Stand (count es fs) w' r
     pub more : r ≤ suc t
-
-  -- i corners were drawn, a to b and c to d are left, and top corners are on the stack
-  pub record Walking (w : List ℕ) (a b c d top i : ℕ) : Type 0 where
-    pub span : a ≤ b
-    pub high : b ≤ length es
-    pub low2 : length es ≤ c
-    pub span2 : c ≤ d
-    pub high2 : d ≤ count es fs
-    pub left : i + (b - a + (d - c)) ≡ count es fs
-    pub few : top ≤ i
-    pub stand : Stand (count es fs) w top
-    pub walk : Walk (corner-at es ns fs ms lower) (count es fs) (Left a b c d) (listed-at es ns fs ms lower w) top
-
-  -- the chain of all corners, r of them at the front of w
-  pub record Chained (w : List ℕ) (r : ℕ) : Type 0 where
-    pub chain : UpperChain (All (corner-at es ns fs ms lower) (count es fs)) (listed (listed-at es ns fs ms lower w) r)
-    pub stand : Stand (count es fs) w r
-    pub few : r ≤ count es fs

@@ -2,16 +2,18 @@
 // on to it does not turn strictly right, and is put on top. This is Andrew's chain, over corners that need no sorting.
 
 ghost use mathlib.Core.Path.{_≡_};
-ghost use Prim.Native.Nat.{_≤_, _<_};
+ghost use Prim.Native.Nat.{_+_, _≤_, _<_};
 ghost use lib.ListN.{length};
 ghost use Rattle.samples.specs.Positions.{Near};
 ghost use Rattle.samples.specs.HeldStream.{stream-of};
 ghost use Rattle.laws_stack.specs.Stack.{stays};
-ghost use Rattle.walk.specs.TwoRings.{Corners, Rings, count, corner-at, listed-at, Stand, Coming, Settled, Next, Hides, Taken, Chained};
+ghost use Rattle.walk.specs.TwoRings.{Corners, count, corner-at, listed-at, Stand, Coming, Settled, Next, Hides, Taken};
+ghost use Rattle.walk.specs.Ways.{Ways, Chained};
 use crate::corners::listed;
 use crate::corners::seen;
 use crate::corners::south;
 use crate::corners::west;
+use crate::draw::Way;
 use crate::draw::draw;
 use samples::streams::Stream;
 use samples::streams::strictly_right;
@@ -118,33 +120,30 @@ fn taken(
     t + 1
 }
 
-// The upper chain of both rings' corners, or of the corners mirrored: the places of its corners at the front of w, and how many they are.
+// The upper chain of both rings' corners, or of the corners mirrored, over a way of each ring: the places of its corners at the front of w, and how many
+// they are.
 pub fn chain(
     east: &[i32],
     north: &[i32],
     east2: &[i32],
     north2: &[i32],
     lower: bool,
+    a: Way,
+    b: Way,
     w: &mut [u32],
 ) -> usize
-    requires { ⌜ Rings (now east) (now north) (now east2) (now north2) × (count (now east) (now east2) ≤ length (now w)) ⌝ }
-    ensures { λ r. ⌜ Chained (now (east .entry)) (now (north .entry)) (now (east2 .entry)) (now (north2 .entry)) lower (now (w .exit)) r ⌝ }
+    requires { ⌜ Ways (now east) (now north) (now east2) (now north2) lower a b × (a .count + b .count ≤ length (now w)) ⌝ }
+    ensures { λ r. ⌜ Chained (now (east .entry)) (now (north .entry)) (now (east2 .entry)) (now (north2 .entry)) lower a b (now (w .exit)) r ⌝ }
 {
-    let n = east.len() + east2.len();
-    let mut a = 0;
-    let mut b = east.len();
-    let mut c = b;
-    let mut d = n;
-    let mut top = 0;
+    let n = a.count + b.count;
     let mut i = 0;
-    while i < n {
-        let x = draw(east, north, east2, north2, a, b, c, d);
+    let mut j = 0;
+    let mut top = 0;
+    while i + j < n {
+        let x = draw(east, north, east2, north2, lower, a, b, i, j);
         top = taken(east, north, east2, north2, lower, w, top, x.place);
-        a = x.a;
-        b = x.b;
-        c = x.c;
-        d = x.d;
-        i += 1;
+        i = x.first;
+        j = x.second;
     }
     top
 }

@@ -1,115 +1,94 @@
-// Both rings walked together from west to east: of the places that are left, a to b of the first ring and c to d of the second, the westmost is drawn.
+// Two ways walked together, one over corners of each ring, both from west to east: the next corner of the way that is further west is drawn.
 
 ghost use mathlib.Core.Path.{_≡_};
-ghost use Rattle.laws_stack.specs.DrawnWalk.{Draws};
-ghost use Rattle.walk.specs.TwoRings.{Corners, Span, WestEnd, Spans, Drawn, AtFirst, AtSecond};
+ghost use Prim.Native.Nat.{_<_};
+ghost use Rattle.walk.specs.Ways.{way-place, Inside, Ways, Stands, Second, Drawn};
 use crate::corners::seen;
 use crate::corners::west;
 
-// The place that is drawn, and what is left without it.
-pub struct Left {
-    pub place: usize,
-    pub a: usize,
-    pub b: usize,
-    pub c: usize,
-    pub d: usize,
+// A way over so many corners of a ring: from a place on, or, for the lower side, from a place back.
+pub struct Way {
+    pub from: usize,
+    pub count: usize,
 }
 
-// The westmost of the places lo to hi: the easts go up and then down, so it is the first or the last.
-fn west_end(
+// A step of the walk: the place that is drawn, and how many corners of each way are drawn with it.
+pub struct Step {
+    pub place: usize,
+    pub first: usize,
+    pub second: usize,
+}
+
+// Where corner i of a way stands among the m corners of its ring, place 0 again after the last.
+fn place(m: usize, lower: bool, a: Way, i: usize) -> usize
+    requires { ⌜ Inside lower m a × (i < a .count) ⌝ }
+    ensures { λ r. ⌜ r ≡ way-place lower m (a .from) i ⌝ }
+{
+    if !lower {
+        return a.from + i;
+    }
+    let k = a.from - i;
+    if k == m {
+        return 0;
+    }
+    k
+}
+
+// The second way is the next: the first is over, or the second's next corner is further west.
+fn second_next(
     east: &[i32],
     north: &[i32],
     east2: &[i32],
     north2: &[i32],
-    lo: usize,
-    hi: usize,
-) -> usize
-    requires { ⌜ Corners (now east) (now north) (now east2) (now north2) × Span (now east) (now north) (now east2) (now north2) lo hi ⌝ }
-    ensures { λ r. ⌜ WestEnd (now (east .entry)) (now (north .entry)) (now (east2 .entry)) (now (north2 .entry)) lo hi r ⌝ }
+    lower: bool,
+    a: Way,
+    b: Way,
+    i: usize,
+    j: usize,
+) -> bool
+    requires { ⌜ Ways (now east) (now north) (now east2) (now north2) lower a b × Stands a b i j ⌝ }
+    ensures { λ r. ⌜ Second (now (east .entry)) (now (north .entry)) (now (east2 .entry)) (now (north2 .entry)) lower a b i j r ⌝ }
 {
-    let last = hi - 1;
-    let p = seen(east, north, east2, north2, false, lo);
-    let q = seen(east, north, east2, north2, false, last);
-    if west(q, p) {
-        return last;
+    if i == a.count {
+        return true;
     }
-    lo
+    if j == b.count {
+        return false;
+    }
+    let x = place(east.len(), lower, a, i);
+    let y = east.len() + place(east2.len(), lower, b, j);
+    west(
+        seen(east, north, east2, north2, lower, y),
+        seen(east, north, east2, north2, lower, x),
+    )
 }
 
-// The place k is drawn from the first ring.
-fn from_first(k: usize, a: usize, b: usize, c: usize, d: usize) -> Left
-    requires { ⌜ AtFirst k a b c d ⌝ }
-    ensures { λ r. ⌜ (r .place ≡ k) × Draws a b c d (r .place) (r .a) (r .b) (r .c) (r .d) ⌝ }
-{
-    if k == a {
-        return Left {
-            place: k,
-            a: k + 1,
-            b,
-            c,
-            d,
-        };
-    }
-    Left {
-        place: k,
-        a,
-        b: k,
-        c,
-        d,
-    }
-}
-
-// The place k is drawn from the second ring.
-fn from_second(k: usize, a: usize, b: usize, c: usize, d: usize) -> Left
-    requires { ⌜ AtSecond k a b c d ⌝ }
-    ensures { λ r. ⌜ (r .place ≡ k) × Draws a b c d (r .place) (r .a) (r .b) (r .c) (r .d) ⌝ }
-{
-    if k == c {
-        return Left {
-            place: k,
-            a,
-            b,
-            c: k + 1,
-            d,
-        };
-    }
-    Left {
-        place: k,
-        a,
-        b,
-        c,
-        d: k,
-    }
-}
-
-// The westmost place of all that are left is drawn.
+// The next corner of both ways is drawn, after i of the first and j of the second.
 pub fn draw(
     east: &[i32],
     north: &[i32],
     east2: &[i32],
     north2: &[i32],
-    a: usize,
-    b: usize,
-    c: usize,
-    d: usize,
-) -> Left
-    requires { ⌜ Corners (now east) (now north) (now east2) (now north2) × Spans (now east) (now north) (now east2) (now north2) a b c d ⌝ }
-    ensures { λ r. ⌜ Drawn (now (east .entry)) (now (north .entry)) (now (east2 .entry)) (now (north2 .entry)) a b c d
-        (r .place) (r .a) (r .b) (r .c) (r .d) ⌝ }
+    lower: bool,
+    a: Way,
+    b: Way,
+    i: usize,
+    j: usize,
+) -> Step
+    requires { ⌜ Ways (now east) (now north) (now east2) (now north2) lower a b × Stands a b i j ⌝ }
+    ensures { λ r. ⌜ Drawn (now (east .entry)) (now (north .entry)) (now (east2 .entry)) (now (north2 .entry)) lower a b i j
+        (r .place) (r .first) (r .second) ⌝ }
 {
-    if a == b {
-        return from_second(west_end(east, north, east2, north2, c, d), a, b, c, d);
+    if second_next(east, north, east2, north2, lower, a, b, i, j) {
+        return Step {
+            place: east.len() + place(east2.len(), lower, b, j),
+            first: i,
+            second: j + 1,
+        };
     }
-    let x = west_end(east, north, east2, north2, a, b);
-    if c == d {
-        return from_first(x, a, b, c, d);
+    Step {
+        place: place(east.len(), lower, a, i),
+        first: i + 1,
+        second: j,
     }
-    let y = west_end(east, north, east2, north2, c, d);
-    if west(
-        seen(east, north, east2, north2, false, y),
-        seen(east, north, east2, north2, false, x),
-    ) {
-        return from_second(y, a, b, c, d);
-    }
-    from_first(x, a, b, c, d)
 }

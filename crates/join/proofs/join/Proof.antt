@@ -14,7 +14,6 @@ use Rattle.samples.specs.Tests.{tested-of, quiet-number}
 use Rattle.samples.specs.declared.tests.Tested.the-variants.{Passed}
 use Rattle.envelope.specs.Tests.{alone-tests, sound}
 use Rattle.envelope.specs.TwoRings.{first-refused, second-refused, many-refused, scratch-refused, all-pass}
-use Rattle.join.specs.Passed.{two-sound}
 use Rattle.join.proofs.join.Statement.{statement}
 use Rattle.join.proofs.join.Tie as tie
 
@@ -98,7 +97,7 @@ write-join-requires c κs =
     let a = start (first-tested (first-of at)) .args in
     let one = sound (now (a .east)) (now (a .north)) (first (first-of at)) in
     let two = sound (now (a .east2)) (now (a .north2)) (second at) in
-    (two-sound one two (passed .before .if1 .left), omega arith)
+    (record { first = one; second = two; few = passed .before .if1 .left }, omega arith)
 
 returns-5 : tie.Need-returns-5
 unfolding join-answer

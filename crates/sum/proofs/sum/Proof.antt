@@ -12,8 +12,7 @@ use Rattle.closing.specs.RingPromise.{outcome-as, outcome-refused}
 use Rattle.samples.specs.Tests.{tested-of, quiet-number}
 use Rattle.samples.specs.declared.tests.Tested.the-variants.{Passed}
 use Rattle.envelope.specs.Tests.{alone-tests, sound}
-use Rattle.envelope.specs.TwoRings.{first-refused, second-refused, many-refused, scratch-refused, all-pass}
-use Rattle.sum.specs.Whole.{Addends}
+use Rattle.envelope.specs.TwoRings.{Rings, first-refused, second-refused, many-refused, scratch-refused, all-pass}
 use Rattle.sum.specs.Entry.{own-tests, too-far-refused, near-passes}
 use Rattle.sum.proofs.sum.Statement.{statement}
 use Rattle.sum.proofs.sum.Tie as tie
@@ -96,7 +95,7 @@ returns-4 c =
 abbrev entry : tie.Else2 → tie.Start
 entry c = start (first-tested (first-of (both-passed c)))
 
-addends : (c : tie.Else2) → let a = entry c .args in Addends (now (a .east)) (now (a .north)) (now (a .east2)) (now (a .north2))
+addends : (c : tie.Else2) → let a = entry c .args in Rings (now (a .east)) (now (a .north)) (now (a .east2)) (now (a .north2))
 addends c =
     let at = both-passed c in
     let a = entry c .args in
