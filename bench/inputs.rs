@@ -94,6 +94,18 @@ impl Sheet {
     pub fn position(&self, number: u32) -> (i32, i32) {
         (self.east[number as usize], self.north[number as usize])
     }
+
+    /// Room for so many.
+    #[cfg(has_library)]
+    pub fn room(n: usize) -> Sheet {
+        Sheet { east: vec![0; n], north: vec![0; n] }
+    }
+
+    /// The first so many positions.
+    #[cfg(has_library)]
+    pub fn positions(&self, count: usize) -> Vec<(i32, i32)> {
+        (0..count as u32).map(|number| self.position(number)).collect()
+    }
 }
 
 fn sheet(n: usize, mut one: impl FnMut(usize) -> (f64, f64)) -> Sheet {

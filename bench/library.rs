@@ -186,6 +186,24 @@ mod counted {
             scratch_len: usize,
         ) -> *mut Counted;
 
+        fn nuoskelma_join(
+            answer: *mut Counted,
+            east: *const i32,
+            east_len: usize,
+            north: *const i32,
+            north_len: usize,
+            east2: *const i32,
+            east2_len: usize,
+            north2: *const i32,
+            north2_len: usize,
+            out_east: *mut i32,
+            out_east_len: usize,
+            out_north: *mut i32,
+            out_north_len: usize,
+            scratch: *mut u32,
+            scratch_len: usize,
+        ) -> *mut Counted;
+
         fn nuoskelma_sum(
             answer: *mut Counted,
             east: *const i32,
@@ -202,6 +220,28 @@ mod counted {
             out_north_len: usize,
             scratch: *mut u32,
             scratch_len: usize,
+        ) -> *mut Counted;
+
+        fn nuoskelma_turn_about(
+            answer: *mut Counted,
+            east: *const i32,
+            east_len: usize,
+            north: *const i32,
+            north_len: usize,
+            out_east: *mut i32,
+            out_east_len: usize,
+            out_north: *mut i32,
+            out_north_len: usize,
+        ) -> *mut Counted;
+
+        fn nuoskelma_record(
+            answer: *mut Counted,
+            bytes: *const u8,
+            bytes_len: usize,
+            out_east: *mut i32,
+            out_east_len: usize,
+            out_north: *mut i32,
+            out_north_len: usize,
         ) -> *mut Counted;
 
         fn nuoskelma_write_record(
@@ -251,28 +291,72 @@ mod counted {
         answer.told()
     }
 
+    /// Calls an entry that makes a ring of two.
+    macro_rules! of_two {
+        ($entry:ident, $first:ident, $second:ident, $out:ident, $scratch:ident) => {{
+            let mut answer = Counted::NONE;
+            // as for pick
+            unsafe {
+                $entry(
+                    &mut answer,
+                    $first.east.as_ptr(),
+                    $first.east.len(),
+                    $first.north.as_ptr(),
+                    $first.north.len(),
+                    $second.east.as_ptr(),
+                    $second.east.len(),
+                    $second.north.as_ptr(),
+                    $second.north.len(),
+                    $out.east.as_mut_ptr(),
+                    $out.east.len(),
+                    $out.north.as_mut_ptr(),
+                    $out.north.len(),
+                    $scratch.as_mut_ptr(),
+                    $scratch.len(),
+                )
+            };
+            answer.told()
+        }};
+    }
+
+    /// How many corners of the join of two rings stand at the front of the output, or the refusal's number.
+    pub fn join(first: &Sheet, second: &Sheet, out: &mut Sheet, scratch: &mut [u32]) -> Result<usize, u32> {
+        of_two!(nuoskelma_join, first, second, out, scratch)
+    }
+
     /// How many corners of the sum of two rings stand at the front of the output, or the refusal's number.
     pub fn sum(first: &Sheet, second: &Sheet, out: &mut Sheet, scratch: &mut [u32]) -> Result<usize, u32> {
+        of_two!(nuoskelma_sum, first, second, out, scratch)
+    }
+
+    /// How many corners of a ring turned about stand at the front of the output, or the refusal's number.
+    pub fn turn_about(ring: &Sheet, out: &mut Sheet) -> Result<usize, u32> {
         let mut answer = Counted::NONE;
+        let Sheet { east, north } = out;
         // as for pick
         unsafe {
-            nuoskelma_sum(
+            nuoskelma_turn_about(
                 &mut answer,
-                first.east.as_ptr(),
-                first.east.len(),
-                first.north.as_ptr(),
-                first.north.len(),
-                second.east.as_ptr(),
-                second.east.len(),
-                second.north.as_ptr(),
-                second.north.len(),
-                out.east.as_mut_ptr(),
-                out.east.len(),
-                out.north.as_mut_ptr(),
-                out.north.len(),
-                scratch.as_mut_ptr(),
-                scratch.len(),
+                ring.east.as_ptr(),
+                ring.east.len(),
+                ring.north.as_ptr(),
+                ring.north.len(),
+                east.as_mut_ptr(),
+                east.len(),
+                north.as_mut_ptr(),
+                north.len(),
             )
+        };
+        answer.told()
+    }
+
+    /// How many corners of a record stand at the front of the output, or the refusal's number.
+    pub fn read_record(bytes: &[u8], out: &mut Sheet) -> Result<usize, u32> {
+        let mut answer = Counted::NONE;
+        let Sheet { east, north } = out;
+        // as for pick
+        unsafe {
+            nuoskelma_record(&mut answer, bytes.as_ptr(), bytes.len(), east.as_mut_ptr(), east.len(), north.as_mut_ptr(), north.len())
         };
         answer.told()
     }
@@ -300,4 +384,68 @@ mod counted {
 }
 
 #[cfg(has_library)]
-pub use counted::{ring, sum, write_record};
+pub use counted::{join, read_record, ring, sum, turn_about, write_record};
+
+#[cfg(has_library)]
+mod asked {
+    use crate::inputs::Sheet;
+
+    #[repr(C)]
+    struct StrongestSet {
+        number: u32,
+        place: usize,
+        set: i64,
+        at: usize,
+    }
+
+    #[repr(C)]
+    struct Covered {
+        number: u32,
+        place: usize,
+        covered: u32,
+    }
+
+    extern "C" {
+        fn nuoskelma_strongest(
+            answer: *mut StrongestSet,
+            east: *const i32,
+            east_len: usize,
+            north: *const i32,
+            north_len: usize,
+            x: i32,
+            y: i32,
+        ) -> *mut StrongestSet;
+
+        fn nuoskelma_cover(answer: *mut Covered, east: *const i32, east_len: usize, north: *const i32, north_len: usize, x: i32, y: i32)
+            -> *mut Covered;
+    }
+
+    /// The strongest set on a course and its first place, or the refusal's number.
+    pub fn strongest(ring: &Sheet, (x, y): (i32, i32)) -> Result<(i64, usize), u32> {
+        let mut answer = StrongestSet { number: 0, place: 0, set: 0, at: 0 };
+        let (east, north) = (&ring.east, &ring.north);
+        // as for pick
+        unsafe { nuoskelma_strongest(&mut answer, east.as_ptr(), east.len(), north.as_ptr(), north.len(), x, y) };
+        if answer.number == 0 {
+            Ok((answer.set, answer.at))
+        } else {
+            Err(answer.number)
+        }
+    }
+
+    /// Whether a ring covers a stream, or the refusal's number.
+    pub fn cover(ring: &Sheet, (x, y): (i32, i32)) -> Result<bool, u32> {
+        let mut answer = Covered { number: 0, place: 0, covered: 0 };
+        let (east, north) = (&ring.east, &ring.north);
+        // as for pick
+        unsafe { nuoskelma_cover(&mut answer, east.as_ptr(), east.len(), north.as_ptr(), north.len(), x, y) };
+        if answer.number == 0 {
+            Ok(answer.covered == 1)
+        } else {
+            Err(answer.number)
+        }
+    }
+}
+
+#[cfg(has_library)]
+pub use asked::{cover, strongest};

@@ -1,6 +1,6 @@
 //! Times of the library's entries as ratios to peers, in one run, on this processor. No time decides how the run ends; an answer that differs does.
 //!
-//! Arguments: tables (pick, bridge, chains, write, sums), or check, which holds the peers against each other.
+//! Arguments: tables (pick, bridge, chains, write, sums, join, rings), or check, which holds the peers against each other.
 
 mod adding;
 mod andrew;

@@ -5,7 +5,11 @@ pub mod bridge;
 #[cfg(has_library)]
 pub mod chains;
 #[cfg(has_library)]
+pub mod join;
+#[cfg(has_library)]
 pub mod pick;
+#[cfg(has_library)]
+pub mod rings;
 #[cfg(has_library)]
 pub mod sums;
 #[cfg(has_library)]
@@ -26,4 +30,8 @@ pub const TABLES: &[Printed] = &[
     ("write", write::print),
     #[cfg(has_library)]
     ("sums", sums::print),
+    #[cfg(has_library)]
+    ("join", join::print),
+    #[cfg(has_library)]
+    ("rings", rings::print),
 ];

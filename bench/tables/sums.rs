@@ -28,7 +28,7 @@ struct Room {
 impl Room {
     fn new(n: usize) -> Room {
         let of_pairs = (n * n <= MOST_PAIRS).then(|| vec![7; scratch_for(n * n)]);
-        Room { out: Sheet { east: vec![0; 2 * n], north: vec![0; 2 * n] }, scratch: vec![7; scratch_for(2 * n)], of_pairs }
+        Room { out: Sheet::room(2 * n), scratch: vec![7; scratch_for(2 * n)], of_pairs }
     }
 
     fn sum(&mut self, (first, second): &Rings) -> Result<usize, u32> {
@@ -53,13 +53,12 @@ pub fn print() {
 
 /// The corners of the library's sum, in order; the run ends where the plain one or the ring of all pairs differs.
 fn compared(rings: &Rings, room: &mut Room) -> Vec<(i32, i32)> {
-    let corners = |sheet: &Sheet, count: usize| (0..count as u32).map(|place| sheet.position(place)).collect::<Vec<_>>();
-    let answer = room.sum(rings).map(|count| corners(&room.out, count));
+    let answer = room.sum(rings).map(|count| room.out.positions(count));
     let mut plain = Sheet::default();
-    same("sum, beside the plain one", answer.clone(), adding::sum(&rings.0, &rings.1, &mut plain).map(|count| corners(&plain, count)));
+    same("sum, beside the plain one", answer.clone(), adding::sum(&rings.0, &rings.1, &mut plain).map(|count| plain.positions(count)));
     same("a word of scratch other than zero", room.scratch.iter().any(|&word| word != 0), false);
     if let Some(ring) = room.ring_of_pairs(rings) {
-        same("sum, beside the ring of all pairs", answer.clone(), ring.map(|count| corners(&room.out, count)));
+        same("sum, beside the ring of all pairs", answer.clone(), ring.map(|count| room.out.positions(count)));
     }
     let mut sum = answer.unwrap_or_default();
     sum.sort_unstable();
