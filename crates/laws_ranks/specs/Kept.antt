@@ -59,6 +59,3 @@ module _ {A : Type 0} where
 
     pub kept-most : k ≤ length xs
     kept-most = omega (arith, t .number, count-le-length f xs)
-
-    pub kept-same : {after : List A} → take k after ≡ take k now → Kept f xs k after
-    kept-same e = record { number = t .number; front = e ∙ t .front }

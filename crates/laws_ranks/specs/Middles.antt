@@ -1,22 +1,27 @@
 -- "The middle of the middles of groups of five", and how it splits the list: at most seven tenths of the items and a constant lie on either
--- side, so that picking by such pivots is linear work. The groups are whole: up to four items after the last of them take no part in the choice.
+-- side, so that picking by such pivots is linear work. The groups are whole: up to four items after the last of them take no part in the choice. A group is a
+-- column: the list lies in five rows of one length, and the groups go across them.
 -- Assumes nothing.
 use mathlib.Core.Path.{_≡_, refl, sym, ap, _∙_, subst}
 use mathlib.Core.Bool.{Bool, true, false}
-use mathlib.Core.List.{List, [], _∷_, _++_, map}
-use Prim.Native.Nat.{ℕ, zero, suc, _+_, _*_, _/_, _≤_, zero-le}
+use mathlib.Core.List.{List, [], _∷_, _++_, map, map-append}
+use Prim.Native.Nat.{ℕ, zero, suc, _+_, _*_, _/_, _≤_, _<_, zero-le}
 use native.Mathlib.Omega.{arith}
 use lib.Dec.{T}
-use lib.ListN.{length, take, drop, length-drop, take-append-drop, length-map}
-use lib.Seq.{length-take-le, drop-drop}
+use lib.ListN.{length, getD, take, drop, length-append, length-drop, take-append-drop, length-map}
+use lib.Seq.{take-suc, getD-drop, drop-drop}
 use Rattle.rules.specs.Picker.{ranked}
 use Rattle.laws_ranks.specs.Counts.{bit, count, count-append, count-mono, count-not}
 use Rattle.laws_ranks.specs.Ranks.{Order, HasRank, under, upto, over, ranked-has-rank}
 
--- the first g groups of five
-unfoldable pub fives : {A : Type 0} → ℕ → List A → List (List A)
-fives zero xs = []
-fives (suc g) xs = take 5 xs ∷ fives g (drop 5 xs)
+-- group i of g, d where there is no item
+abbrev pub column : {A : Type 0} → A → ℕ → List A → ℕ → List A
+column d g xs i = getD xs i d ∷ getD xs (g + i) d ∷ getD xs (2 * g + i) d ∷ getD xs (3 * g + i) d ∷ getD xs (4 * g + i) d ∷ []
+
+-- the first k of g groups of five
+unfoldable pub fives : {A : Type 0} → A → ℕ → List A → ℕ → List (List A)
+fives d g xs zero = []
+fives d g xs (suc k) = fives d g xs k ++ (column d g xs k ∷ [])
 
 module _ {A : Type 0} (le : A → A → Bool) (d : A) where
   -- the middle item by rank, the lower of two: d where there is none
@@ -25,28 +30,22 @@ module _ {A : Type 0} (le : A → A → Bool) (d : A) where
 
   -- the middles of the groups of five
   unfoldable pub middles : List A → List A
-  middles xs = map middle (fives (length xs / 5) xs)
+  middles xs = map middle (fives d (length xs / 5) xs (length xs / 5))
 
   unfoldable pub middle-of-middles : List A → A
   middle-of-middles xs = middle (middles xs)
 
 -- ---- the groups one by one
 
-five-more : (g : ℕ) → 5 * suc g ≡ 5 + 5 * g
-five-more g = omega arith
+module _ {A : Type 0} (d : A) (g : ℕ) (xs : List A) where
+  pub fives-more : (k : ℕ) → fives d g xs (suc k) ≡ fives d g xs k ++ (column d g xs k ∷ [])
+  unfolding fives
+  fives-more k = refl
 
-pub fives-more : {A : Type 0} (g : ℕ) (xs : List A) → fives (suc g) xs ≡ fives g xs ++ (take 5 (drop (5 * g) xs) ∷ [])
-unfolding fives
-fives-more zero xs = refl
-fives-more (suc g) xs =
-    ap (λ (l : List (List _)). take 5 xs ∷ l)
-    (fives-more g (drop 5 xs)
-    ∙ ap (λ (l : List _). fives g (drop 5 xs) ++ (take 5 l ∷ [])) (drop-drop (5 * g) 5 xs ∙ ap (λ (n : ℕ). drop n xs) (sym (five-more g))))
-
-pub length-fives : {A : Type 0} (g : ℕ) (xs : List A) → length (fives g xs) ≡ g
-unfolding fives
-length-fives zero xs = refl
-length-fives (suc g) xs = ap suc (length-fives g (drop 5 xs))
+  pub length-fives : (k : ℕ) → length (fives d g xs k) ≡ k
+  unfolding fives
+  length-fives zero = refl
+  length-fives (suc k) = omega (arith, length-append (fives d g xs k) (column d g xs k ∷ []), length-fives k)
 
 -- ---- how the middle of the middles splits the list
 
@@ -60,7 +59,7 @@ pub record Splits {A : Type 0} (le : A → A → Bool) (xs : List A) (p : A) : T
 module _ {A : Type 0} {le : A → A → Bool} (o : Order le) (d : A) where
   pub length-middles : (xs : List A) → length (middles le d xs) ≡ length xs / 5
   unfolding middles
-  length-middles xs = length-map (fives (length xs / 5) xs) (middle le d) ∙ length-fives (length xs / 5) xs
+  length-middles xs = length-map (fives d (length xs / 5) xs (length xs / 5)) (middle le d) ∙ length-fives d (length xs / 5) xs (length xs / 5)
 
   -- the middle of five: three items are at most it, and three at least
   three-upto : (xs : List A) → length xs ≡ 5 → 3 ≤ count (upto le (middle le d xs)) xs
@@ -77,24 +76,74 @@ module _ {A : Type 0} {le : A → A → Bool} (o : Order le) (d : A) where
       let a = h .fewer in
       omega (arith, count-not (le (ranked le d ((length xs + 1) / 2) xs)) xs)
 
-  -- a test that passes for three of each group whose middle passes it passes for three times as many items as middles
-  thrice : (f : A → Bool) → ((xs : List A) → length xs ≡ 5 → T (f (middle le d xs)) → 3 ≤ count f xs)
-      → (g : ℕ) (xs : List A)
-      → 5 * g ≤ length xs
-      → 3 * count f (map (middle le d) (fives g xs)) ≤ count f xs
-  unfolding fives count
-  thrice f three zero xs room = zero-le
-  thrice f three (suc g) xs room =
-      go (f (middle le d (take 5 xs))) refl (thrice f three g (drop 5 xs) (omega (arith, length-drop 5 xs)))
-    where
-      split : count f xs ≡ count f (take 5 xs) + count f (drop 5 xs)
-      split = ap (count f) (sym (take-append-drop 5 xs)) ∙ count-append f (take 5 xs) (drop 5 xs)
+  -- a row of k items and one more, and a row of g items and what follows it
+  row-more : (f : A → Bool) (j k i : ℕ) (xs : List A)
+      → i ≡ j + k
+      → i < length xs
+      → count f (take (suc k) (drop j xs)) ≡ count f (take k (drop j xs)) + bit (f (getD xs i d))
+  unfolding count
+  row-more f j k i xs e h =
+      rw (take-suc (drop j xs) k d (omega (arith, length-drop j xs)), getD-drop j xs k d, ← e)
+      (omega (arith, count-append f (take k (drop j xs)) (getD xs i d ∷ [])))
 
-      go : (b : Bool) → f (middle le d (take 5 xs)) ≡ b
-          → 3 * count f (map (middle le d) (fives g (drop 5 xs))) ≤ count f (drop 5 xs)
-          → 3 * (bit b + count f (map (middle le d) (fives g (drop 5 xs)))) ≤ count f xs
-      go true e ih = omega (arith, split, three (take 5 xs) (length-take-le 5 xs (omega arith)) (subst T (sym e) tt))
-      go false e ih = omega (arith, split)
+  row-next : (f : A → Bool) (j g k : ℕ) (xs : List A)
+      → k ≡ j + g
+      → count f (drop j xs) ≡ count f (take g (drop j xs)) + count f (drop k xs)
+  row-next f j g k xs e =
+      ap (count f) (sym (take-append-drop g (drop j xs)))
+      ∙ count-append f (take g (drop j xs)) (drop g (drop j xs))
+      ∙ ap (λ (l : List A). count f (take g (drop j xs)) + count f l) (drop-drop g j xs ∙ ap (λ (n : ℕ). drop n xs) (sym e))
+
+  -- a test that passes for three of each group whose middle passes it passes for three times as many items as middles
+  module _ (f : A → Bool) (three : (xs : List A) → length xs ≡ 5 → T (f (middle le d xs)) → 3 ≤ count f xs) (g : ℕ) (xs : List A) (room : 5 * g ≤ length xs) where
+    -- how many pass among the first k of each row
+    abbrev among : ℕ → ℕ
+    among k =
+        count f (take k (drop 0 xs)) + count f (take k (drop g xs)) + count f (take k (drop (2 * g) xs)) + count f (take k (drop (3 * g) xs))
+        + count f (take k (drop (4 * g) xs))
+
+    among-rows : (k : ℕ) → k ≤ g → 3 * count f (map (middle le d) (fives d g xs k)) ≤ among k
+    unfolding fives count
+    among-rows zero few = zero-le
+    among-rows (suc k) few = go (f (middle le d (column d g xs k))) refl (among-rows k (omega arith))
+      where
+        more : count f (map (middle le d) (fives d g xs (suc k)))
+            ≡ count f (map (middle le d) (fives d g xs k)) + bit (f (middle le d (column d g xs k)))
+        more =
+            omega (
+              arith,
+              ap (count f) (map-append (middle le d) (fives d g xs k) (column d g xs k ∷ [])),
+              count-append f (map (middle le d) (fives d g xs k)) (middle le d (column d g xs k) ∷ []),
+            )
+
+        rows : among (suc k) ≡ among k + count f (column d g xs k)
+        rows =
+            omega (
+              arith,
+              row-more f 0 k k xs (omega arith) (omega arith),
+              row-more f g k (g + k) xs refl (omega arith),
+              row-more f (2 * g) k (2 * g + k) xs refl (omega arith),
+              row-more f (3 * g) k (3 * g + k) xs refl (omega arith),
+              row-more f (4 * g) k (4 * g + k) xs refl (omega arith),
+            )
+
+        go : (b : Bool) → f (middle le d (column d g xs k)) ≡ b
+            → 3 * count f (map (middle le d) (fives d g xs k)) ≤ among k
+            → 3 * count f (map (middle le d) (fives d g xs (suc k))) ≤ among (suc k)
+        go true e ih = omega (arith, more, rows, ap bit e, three (column d g xs k) refl (subst T (sym e) tt))
+        go false e ih = omega (arith, more, rows, ap bit e)
+
+    thrice : 3 * count f (map (middle le d) (fives d g xs g)) ≤ count f xs
+    thrice =
+        omega (
+          arith,
+          among-rows g (omega arith),
+          row-next f 0 g g xs (omega arith),
+          row-next f g g (2 * g) xs (omega arith),
+          row-next f (2 * g) g (3 * g) xs (omega arith),
+          row-next f (3 * g) g (4 * g) xs (omega arith),
+          row-next f (4 * g) g (5 * g) xs (omega arith),
+        )
 
   -- three items of a group are at most p where its middle is, and at least p where its middle is
   three-upto-p : (p : A) (xs : List A) → length xs ≡ 5 → T (upto le p (middle le d xs)) → 3 ≤ count (upto le p) xs
@@ -110,11 +159,11 @@ module _ {A : Type 0} {le : A → A → Bool} (o : Order le) (d : A) where
   splits : (g : ℕ) (xs : List A) (p : A)
       → g ≡ length xs / 5
       → 5 ≤ length xs
-      → HasRank le ((g + 1) / 2) (map (middle le d) (fives g xs)) p
+      → HasRank le ((g + 1) / 2) (map (middle le d) (fives d g xs g)) p
       → Splits le xs p
   splits g xs p e five h =
-      let ms = map (middle le d) (fives g xs) in
-      let long : length ms ≡ g = length-map (fives g xs) (middle le d) ∙ length-fives g xs in
+      let ms = map (middle le d) (fives d g xs g) in
+      let long : length ms ≡ g = length-map (fives d g xs g) (middle le d) ∙ length-fives d g xs g in
       let a = h .fewer in
       let b = h .enough in
       let c = thrice (upto le p) (three-upto-p p) g xs (omega arith) in

@@ -3,17 +3,17 @@
 use mathlib.Core.Path.{_≡_, refl, sym, ap, ap₂, _∙_, subst, subst₂}
 use mathlib.Core.Bool.{Bool, true, false, not}
 use mathlib.Core.List.{List, [], _∷_, _++_, map, map-append}
-use Prim.Native.Nat.{ℕ, suc, _+_, _-_, _*_, _/_, _≤_, _<_, min, max}
+use Prim.Native.Nat.{ℕ, _+_, _*_, _/_, _≤_, _<_, min, max}
 use native.Mathlib.Numerals.{add-one}
 use native.Mathlib.Omega.{arith}
 use borrow.Author.Tests.{leb-true, leb-false}
 use lib.Dec.{T, leb, le→leb, not-T}
-use lib.ListN.{length, getD, take, drop, set, length-drop, length-set}
-use lib.Seq.{length-take-le, drop-cons, drop-at, take-add, take-take, take-set-le, take-suc-set, drop-set-add}
+use lib.ListN.{length, take, drop, set, length-drop, length-set}
+use lib.Seq.{length-take-le, getD-take, take-take, take-set-le, take-suc-set, drop-set-add}
 use Rattle.laws_ranks.specs.Counts.{bit, bit-le, bit-yes, bit-no, count}
 use Rattle.laws_ranks.specs.Ranks.{HasRank, under, upto, rank-of-same-items}
 use Rattle.laws_ranks.specs.Numbers.{natural-order, natural-rank-is}
-use Rattle.laws_ranks.specs.Middles.{middle, middles, middle-of-middles, fives, fives-more, length-middles}
+use Rattle.laws_ranks.specs.Middles.{column, middle, middles, middle-of-middles, fives, fives-more, length-middles}
 use Rattle.picker.specs.Picking.{Middled, Picks}
 use Rattle.picker.specs.declared.Ranked.{Ranked}
 
@@ -147,52 +147,33 @@ middle-of-five a b c d e f g is-f is-g = natural-rank-is 0 (middle-from a b c d 
 
 -- ---- the middles behind the keys
 
--- five keys one by one
-five-at : (w : List ℕ) (j : ℕ)
-    → j + 5 ≤ length w
-    → take 5 (drop j w) ≡ getD w j 0 ∷ getD w (j + 1) 0 ∷ getD w (j + 2) 0 ∷ getD w (j + 3) 0 ∷ getD w (j + 4) 0 ∷ []
-five-at w j h =
-    ap (take 5)
-    (on j (j + 1) (omega arith) (omega arith)
-    (on (j + 1) (j + 2) (omega arith) (omega arith)
-    (on (j + 2) (j + 3) (omega arith) (omega arith)
-    (on (j + 3) (j + 4) (omega arith) (omega arith) (on (j + 4) (suc (j + 4)) refl (omega arith) refl)))))
-  where
-    on : (i k : ℕ) → k ≡ suc i → i < length w → {l : List ℕ} → drop k w ≡ l → drop i w ≡ getD w i 0 ∷ l
-    on i k s m e = drop-cons w i 0 m ∙ ap (λ (l : List ℕ). getD w i 0 ∷ l) (ap (λ (x : ℕ). drop x w) (sym s) ∙ e)
-
-pub five-said : (w : List ℕ) (j : ℕ) {v : ℕ}
-    → j + 5 ≤ length w
-    → v ≡ middle leb 0 (getD w j 0 ∷ getD w (j + 1) 0 ∷ getD w (j + 2) 0 ∷ getD w (j + 3) 0 ∷ getD w (j + 4) 0 ∷ [])
-    → v ≡ middle leb 0 (take 5 (drop j w))
-five-said w j h e = e ∙ ap (middle leb 0) (sym (five-at w j h))
-
--- a part of the front is a part of the whole
-part-of-front : (w : List ℕ) (n j m : ℕ) → j + m ≤ n → n ≤ length w → take m (drop j (take n w)) ≡ take m (drop j w)
-part-of-front w n j m h k =
-    ap (λ (l : List ℕ). take m (drop j l)) (ap (λ (x : ℕ). take x w) split ∙ take-add j (n - j) w)
-    ∙ ap (take m) (drop-at (take j w) (take (n - j) (drop j w)) j (length-take-le j w (omega arith)))
-    ∙ take-take m (n - j) (drop j w) (omega arith)
-  where
-    split : n ≡ j + (n - j)
-    split = omega arith
+-- a group of the front is one of the whole
+column-of-front : (w : List ℕ) (n g i : ℕ) → 5 * g ≤ n → i < g → column 0 g (take n w) i ≡ column 0 g w i
+column-of-front w n g i h k =
+    rw (
+      getD-take n w i 0 (omega arith),
+      getD-take n w (g + i) 0 (omega arith),
+      getD-take n w (2 * g + i) 0 (omega arith),
+      getD-take n w (3 * g + i) 0 (omega arith),
+      getD-take n w (4 * g + i) 0 (omega arith),
+    )
 
 -- the middles of the first i groups lie behind the n keys, which are as they were
-pub record Grouping (given : List ℕ) (n : ℕ) (now : List ℕ) (i : ℕ) : Type 0 where
+pub record Grouping (given : List ℕ) (n g : ℕ) (now : List ℕ) (i : ℕ) : Type 0 where
   pub same-keys : take n now ≡ take n given
-  pub written : take i (drop n now) ≡ map (middle leb 0) (fives i (take n given))
+  pub written : take i (drop n now) ≡ map (middle leb 0) (fives 0 g (take n given) i)
   pub long : length now ≡ length given
 
-pub grouping-none : (given : List ℕ) (n : ℕ) → Grouping given n given 0
+pub grouping-none : (given : List ℕ) (n g : ℕ) → Grouping given n g given 0
 unfolding fives
-grouping-none given n = record { same-keys = refl; written = refl; long = refl }
+grouping-none given n g = record { same-keys = refl; written = refl; long = refl }
 
-module _ (given : List ℕ) (n : ℕ) (room : 2 * n ≤ length given) where
+module _ (given : List ℕ) (n g : ℕ) (room : 2 * n ≤ length given) (groups : g ≡ n / 5) where
   pub grouping-more : (now : List ℕ) (i v : ℕ)
-      → i < n / 5
-      → v ≡ middle leb 0 (take 5 (drop (5 * i) now))
-      → Grouping given n now i
-      → Grouping given n (set now (n + i) v) (i + 1)
+      → i < g
+      → v ≡ middle leb 0 (column 0 g now i)
+      → Grouping given n g now i
+      → Grouping given n g (set now (n + i) v) (i + 1)
   grouping-more now i v h e t =
       let l = t .long in
       record {
@@ -201,30 +182,31 @@ module _ (given : List ℕ) (n : ℕ) (room : 2 * n ≤ length given) where
             ap₂ take (add-one i) (drop-set-add n now i v)
             ∙ take-suc-set (drop n now) i v (omega (arith, length-drop n now))
             ∙ ap₂ (λ (l : List ℕ) (m : ℕ). l ++ (m ∷ [])) (t .written) (e ∙ ap (middle leb 0) group)
-            ∙ sym (map-append (middle leb 0) (fives i (take n given)) (take 5 (drop (5 * i) (take n given)) ∷ []))
-            ∙ ap (map (middle leb 0)) (sym (fives-more i (take n given)) ∙ ap (λ (k : ℕ). fives k (take n given)) (sym (add-one i)));
+            ∙ sym (map-append (middle leb 0) (fives 0 g (take n given) i) (column 0 g (take n given) i ∷ []))
+            ∙ ap (map (middle leb 0)) (sym (fives-more 0 g (take n given) i) ∙ ap (fives 0 g (take n given)) (sym (add-one i)));
         long = length-set now (n + i) v ∙ t .long;
       }
     where
-      group : take 5 (drop (5 * i) now) ≡ take 5 (drop (5 * i) (take n given))
-      group =
-          let l = t .long in
-          sym (part-of-front now n (5 * i) 5 (omega arith) (omega arith)) ∙ ap (λ (l : List ℕ). take 5 (drop (5 * i) l)) (t .same-keys)
+      group : column 0 g now i ≡ column 0 g (take n given) i
+      group = sym (column-of-front now n g i (omega arith) h) ∙ ap (λ (l : List ℕ). column 0 g l i) (t .same-keys)
 
-  pub grouping-all : (now : List ℕ) (g i : ℕ) → g ≡ n / 5 → g ≤ i → i ≤ g → Grouping given n now i → Middled given n g now
+  pub grouping-all : (now : List ℕ) (i : ℕ) → g ≤ i → i ≤ g → Grouping given n g now i → Middled given n g now
   unfolding middles
-  grouping-all now g i e h k t =
+  grouping-all now i h k t =
       record {
-        groups = e;
+        groups = groups;
         same-keys = t .same-keys;
         middles =
             ap (λ (x : ℕ). take x (drop n now)) same
             ∙ t .written
-            ∙ ap (λ (x : ℕ). map (middle leb 0) (fives x (take n given))) (sym same ∙ e ∙ ap (λ (x : ℕ). x / 5) (sym (length-take-le n given (omega arith))));
+            ∙ ap₂ (λ (x y : ℕ). map (middle leb 0) (fives 0 x (take n given) y)) all (sym same ∙ all);
       }
     where
       same : g ≡ i
       same = omega arith
+
+      all : g ≡ length (take n given) / 5
+      all = groups ∙ ap (λ (x : ℕ). x / 5) (sym (length-take-le n given (omega arith)))
 
 -- the key picked at the middle rank r among the middles, in the room behind the keys, is the middle of the middles
 pub picked-middle : {w now : List ℕ} {n g m r : ℕ} {said : Ranked}

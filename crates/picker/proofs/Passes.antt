@@ -1,109 +1,90 @@
--- What the passes over keys keep: keys parted at a pivot, keys moved to the front, the least key taken out. Each has its laws: at the start, after one more
--- key, at the end. Assumes nothing.
-use mathlib.Core.Path.{_≡_, refl, sym, ap₂, _∙_, subst₂}
+-- What the passes over keys keep: keys counted beside a pivot, those on one side of it kept, the least key taken out. Each has its laws: at the start, after one
+-- more key, at the end. Assumes nothing.
+use mathlib.Core.Path.{_≡_, refl, sym, ap, _∙_, subst₂}
 use mathlib.Core.Bool.{Bool, true, false, cond, not}
 use mathlib.Core.List.{List, [], _∷_, _++_}
-use Prim.Native.Nat.{ℕ, _+_, _-_, _*_, _≤_, _<_, min, max, zero-le}
-use native.Mathlib.Numerals.{add-one}
+use Prim.Native.Nat.{ℕ, _+_, _-_, _≤_, _<_, min, max}
 use native.Mathlib.Omega.{arith}
 use mir.Val.{boolByte}
 use borrow.Author.Tests.{leb-true, leb-false}
 use lib.Dec.{leb, ltb}
-use lib.ListN.{length, getD, take, drop, set, length-take, length-drop, length-set}
-use lib.Seq.{take-suc, take-suc-set, take-set-le, drop-set-lt, drop-set-add, getD-drop, getD-set-other}
-use Rattle.laws_ranks.specs.Kept.{first-more, stored, Kept, kept-none, kept-more, kept-most, kept-same}
+use lib.ListN.{length, getD, take, drop, set, length-take, length-set}
+use lib.Seq.{take-add, getD-set-other}
+use Rattle.laws_ranks.specs.Counts.{count, count-le-length, count-append}
+use Rattle.laws_ranks.specs.Kept.{first-more, count-more, stored, Kept, kept-none, kept-more, kept-most}
 use Rattle.laws_ranks.specs.Ranks.{under, over}
 use Rattle.laws_ranks.specs.RanksAmong.{OrderOn, order-on}
 use Rattle.laws_ranks.specs.Least.{LeastOut, out-one, out-more}
 use Rattle.laws_ranks.specs.Numbers.{natural-order, natural-under}
-use Rattle.picker.specs.Picking.{Pickable, Parted}
+use Rattle.picker.specs.Picking.{Pickable, Counted}
 
--- ---- keys parted
+-- ---- keys counted
 
--- of the first i keys those below p lie at the front, b of them, and those above it behind the n, a of them; from i on the n keys are as they came
-pub record Parting (given : List ℕ) (n p : ℕ) (now : List ℕ) (i b a : ℕ) : Type 0 where
-  pub within : i ≤ n
-  pub long : length now ≡ length given
-  pub rest : (j : ℕ) → i ≤ j → j < n → getD now j 0 ≡ getD given j 0
-  pub below : Kept (under leb p) (take i given) b now
-  pub above : Kept (over leb p) (take i given) a (drop n now)
+module _ {p : ℕ} where
+  pub counted-none : Counted [] p 0 0
+  unfolding count
+  counted-none = record { below-is = refl; above-is = refl }
 
-module _ {given : List ℕ} {n p : ℕ} where
-  pub parting-none : Parting given n p given 0 0 0
-  parting-none =
+  module _ {keys : List ℕ} {b a : ℕ} (t : Counted keys p b a) where
+    pub below-few : b ≤ length keys
+    below-few = omega (arith, t .below-is, count-le-length (under leb p) keys)
+
+    pub above-few : a ≤ length keys
+    above-few = omega (arith, t .above-is, count-le-length (over leb p) keys)
+
+  -- one more key, and a run of keys more
+  pub counted-more : (keys : List ℕ) {b a i : ℕ}
+      → i < length keys
+      → Counted (take i keys) p b a
+      → Counted (take (i + 1) keys) p (b + boolByte (ltb (getD keys i 0) p)) (a + boolByte (ltb p (getD keys i 0)))
+  counted-more keys {b} {a} {i} h t =
+      let x = getD keys i 0 in
       record {
-        within = zero-le;
-        long = refl;
-        rest = λ j h l. refl;
-        below = kept-none (under leb p) given;
-        above = kept-none (over leb p) (drop n given);
+        below-is =
+            rw (first-more 0 keys i h, natural-under p x, t .below-is) (sym (count-more (under leb p) (take i keys) x));
+        above-is =
+            rw (first-more 0 keys i h, natural-under x p, t .above-is) (sym (count-more (over leb p) (take i keys) x));
       }
 
-  module _ {now : List ℕ} {i b a : ℕ} (t : Parting given n p now i b a) where
-    pub below-few : b ≤ i
-    below-few = omega (arith, kept-most (t .below), length-take i given)
+  pub counted-on : (keys : List ℕ) (i e : ℕ) {b a c d : ℕ}
+      → i ≤ e
+      → Counted (take i keys) p b a
+      → Counted (take (e - i) (drop i keys)) p c d
+      → Counted (take e keys) p (b + c) (a + d)
+  counted-on keys i e h t u =
+      let is : e ≡ i + (e - i) = omega arith in
+      let split : take e keys ≡ take i keys ++ take (e - i) (drop i keys) = rw (← take-add i (e - i) keys, ← is) refl in
+      record {
+        below-is = omega (arith, t .below-is, u .below-is, ap (count (under leb p)) split, count-append (under leb p) (take i keys) (take (e - i) (drop i keys)));
+        above-is = omega (arith, t .above-is, u .above-is, ap (count (over leb p)) split, count-append (over leb p) (take i keys) (take (e - i) (drop i keys)));
+      }
 
-    pub above-few : a ≤ i
-    above-few = omega (arith, kept-most (t .above), length-take i given)
+-- ---- the keys on one side kept
 
-    -- the next key
-    abbrev x : ℕ
-    x = getD now i 0
-
-    pub parting-more : 2 * n ≤ length given → i < n
-        → Parting given n p (set (set now (n + a) x) b x) (i + 1) (b + boolByte (ltb x p)) (a + boolByte (ltb p x))
-    parting-more room h =
-        let l = t .long in
-        let few = below-few in
-        let more = above-few in
-        let first : take (i + 1) given ≡ take i given ++ (x ∷ []) = rw (first-more 0 given i (omega arith), ← t .rest i (omega arith) h) in
-        record {
-          within = omega arith;
-          long = length-set (set now (n + a) x) b x ∙ length-set now (n + a) x ∙ t .long;
-          rest =
-              λ j k m. getD-set-other (set now (n + a) x) b j x 0 (λ e. omega arith)
-              ∙ getD-set-other now (n + a) j x 0 (λ e. omega arith)
-              ∙ t .rest j (omega arith) m;
-          below =
-              rw first
-              (kept-more (kept-same (t .below) (take-set-le b now (n + a) x (omega arith))) x (ltb x p) (natural-under p x) (omega (arith, length-set now (n + a) x)));
-          above =
-              rw (first, drop-set-lt n (set now (n + a) x) b x (omega arith), drop-set-add n now a x)
-              (kept-more (t .above) x (ltb p x) (natural-under x p) (omega (arith, length-drop n now)));
-        }
-
-    pub parting-all : n ≤ i → Parted given n p (record { below = b; above = a }) now
-    parting-all h =
-        let is : i ≡ n = let k = t .within in omega arith in
-        record { below = rw is at (t .below); above = rw is at (t .above) }
-
--- ---- keys moved to the front
-
--- the first i of the keys behind the n lie at the front; from i on the list is as it came
-pub record Fronting (given : List ℕ) (n : ℕ) (now : List ℕ) (i : ℕ) : Type 0 where
+-- of the first i keys the k that pass the test lie at the front; from i on the list is as it came
+pub record Keeping (f : ℕ → Bool) (given now : List ℕ) (i k : ℕ) : Type 0 where
   pub long : length now ≡ length given
   pub rest : (j : ℕ) → i ≤ j → getD now j 0 ≡ getD given j 0
-  pub front : take i now ≡ take i (drop n given)
+  pub kept : Kept f (take i given) k now
 
-pub fronting-none : (given : List ℕ) (n : ℕ) → Fronting given n given 0
-fronting-none given n = record { long = refl; rest = λ j h. refl; front = refl }
+module _ {f : ℕ → Bool} {given : List ℕ} where
+  pub keeping-none : Keeping f given given 0 0
+  keeping-none = record { long = refl; rest = λ j h. refl; kept = kept-none f given }
 
-pub fronting-more : {given : List ℕ} {n : ℕ} {now : List ℕ} {i : ℕ}
-    → n + i < length given
-    → Fronting given n now i
-    → Fronting given n (set now i (getD now (n + i) 0)) (i + 1)
-fronting-more {given} {n} {now} {i} h t =
-    let l = t .long in
-    let x = getD now (n + i) 0 in
-    record {
-      long = length-set now i x ∙ t .long;
-      rest = λ j k. getD-set-other now i j x 0 (λ e. omega arith) ∙ t .rest j (omega arith);
-      front =
-          rw (add-one i)
-          (take-suc-set now i x (omega arith)
-          ∙ ap₂ (λ (l : List ℕ) (y : ℕ). l ++ (y ∷ [])) (t .front) (t .rest (n + i) (omega arith) ∙ sym (getD-drop n given i 0))
-          ∙ sym (take-suc (drop n given) i 0 (omega (arith, length-drop n given))));
-    }
+  module _ {now : List ℕ} {i k : ℕ} (t : Keeping f given now i k) where
+    pub kept-few : k ≤ i
+    kept-few = omega (arith, kept-most (t .kept), length-take i given)
+
+    pub keeping-more : i < length given → {b : Bool} → b ≡ f (getD now i 0) → Keeping f given (set now k (getD now i 0)) (i + 1) (k + boolByte b)
+    keeping-more h {b} e =
+        let l = t .long in
+        let few = kept-few in
+        let x = getD now i 0 in
+        record {
+          long = length-set now k x ∙ t .long;
+          rest = λ j m. getD-set-other now k j x 0 (λ e. omega arith) ∙ t .rest j (omega arith);
+          kept = rw (first-more 0 given i h, ← t .rest i (omega arith)) (kept-more (t .kept) x b e (omega arith));
+        }
 
 -- ---- the least key taken out
 

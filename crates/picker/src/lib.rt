@@ -21,29 +21,25 @@ pub struct Ranked {
     pub key: u32,
 }
 
-// The key of rank r among the n keys at the front of w. Of twenty keys or fewer the least is taken out until it has the rank; more are parted at the
-// pivot, and the pick goes on with the side that has the rank. Of what is lent only the length stays.
+// The key of rank r among the n keys at the front of w. More than twenty are narrowed by the pivot to the side that has the rank, again and again; of twenty or
+// fewer the least is taken out until it has the rank. Of what is lent only the length stays.
 pub fn pick_key(w: &mut [u32], n: usize, r: usize) -> Ranked
     requires { ⌜ Pickable (now w) n r ⌝ }
     ensures { λ said. ⌜ Picks (take n (now (w .entry))) r said ⌝ }
 {
-    if n <= 20 {
-        let key = scan::short(w, n, r);
-        return Ranked { key };
+    let mut m = n;
+    let mut s = r;
+    while 20 < m {
+        let p = pivot(w, m);
+        let rest = scan::narrow(w, m, s, p);
+        if rest.n == 0 {
+            return Ranked { key: p };
+        }
+        m = rest.n;
+        s = rest.r;
     }
-    let p = pivot(w, n);
-    let c = scan::part(w, n, p);
-    let below = c.below;
-    let above = c.above;
-    let upto = n - above;
-    if r <= below {
-        return pick_key(w, below, r);
-    }
-    if r <= upto {
-        return Ranked { key: p };
-    }
-    scan::front(w, n, above);
-    pick_key(w, above, r - upto)
+    let key = scan::short(w, m, s);
+    Ranked { key }
 }
 
 // The middle of the middles of the groups of five among the n keys at the front of w, which stay. It is found by picking, in the room behind them.

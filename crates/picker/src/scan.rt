@@ -1,50 +1,117 @@
 // Passes over keys, written without branches: a test is added as 0 or 1, and of two keys each is chosen by a test.
 use super::five::greater;
 use super::five::lesser;
-ghost use Prim.Native.Nat.{_+_, _*_, _-_, _≤_};
+ghost use Prim.Native.Nat.{_-_, _≤_, _<_};
 ghost use lib.Dec.{leb};
-ghost use lib.ListN.{length, take, drop};
+ghost use lib.ListN.{length, take};
 ghost use mathlib.Core.Path.{_≡_};
+ghost use Rattle.laws_ranks.specs.Kept.{Kept};
 ghost use Rattle.laws_ranks.specs.Ranks.{HasRank};
 ghost use Rattle.laws_ranks.specs.Least.{LeastOut};
-ghost use Rattle.picker.specs.Picking.{Pickable, Parted};
+ghost use Rattle.picker.specs.Picking.{Pickable, Counted, side, Narrowable, Narrowed};
 
 // How many keys are below a key, and how many above it.
-pub struct Counts {
-    pub below: usize,
-    pub above: usize,
+struct Counts {
+    below: usize,
+    above: usize,
 }
 
-// Parts the n keys at the front: those below p are left at the front, and those above it behind the n, in their order. Each is stored at both
-// places, and the places move on by the tests.
-pub fn part(w: &mut [u32], n: usize, p: u32) -> Counts
-    requires { ⌜ 2 * n ≤ length (now w) ⌝ }
-    ensures { λ c. ⌜ Parted (now (w .entry)) n p c (now (w .exit)) ⌝ }
+// The same of a run of keys, in words, which the compiler adds several at once.
+struct RunCounts {
+    below: u32,
+    above: u32,
+}
+
+fn count_run(keys: &[u32], p: u32) -> RunCounts
+    requires { ⌜ length (now keys) ≤ 65536 ⌝ }
+    ensures { λ c. ⌜ Counted (now (keys .entry)) p (c .below) (c .above) ⌝ }
+{
+    let mut below: u32 = 0;
+    let mut above: u32 = 0;
+    let mut i = 0;
+    while i < keys.len() {
+        let x = keys[i];
+        below += (x < p) as u32;
+        above += (p < x) as u32;
+        i += 1;
+    }
+    RunCounts { below, above }
+}
+
+// The end of the run from place i on of n keys.
+fn run_end(i: usize, n: usize) -> usize
+    requires { ⌜ i < n ⌝ }
+    ensures { λ e. ⌜ (i < e) × (e ≤ n) × (e - i ≤ 65536) ⌝ }
+{
+    if n - i < 65536 { n } else { i + 65536 }
+}
+
+// How many of the n keys at the front are below p, and how many above it, run by run.
+fn count(w: &[u32], n: usize, p: u32) -> Counts
+    requires { ⌜ n ≤ length (now w) ⌝ }
+    ensures { λ c. ⌜ Counted (take n (now (w .entry))) p (c .below) (c .above) ⌝ }
 {
     let mut below: usize = 0;
     let mut above: usize = 0;
     let mut i = 0;
     while i < n {
-        let x = w[i];
-        w[n + above] = x;
-        w[below] = x;
-        below += (x < p) as usize;
-        above += (p < x) as usize;
-        i += 1;
+        let e = run_end(i, n);
+        let c = count_run(&w[i..e], p);
+        below += c.below as usize;
+        above += c.above as usize;
+        i = e;
     }
     Counts { below, above }
 }
 
-// The m keys behind the first n, at the front.
-pub fn front(w: &mut [u32], n: usize, m: usize)
-    requires { ⌜ n + m ≤ length (now w) ⌝ }
-    ensures { λ _. ⌜ take m (now (w .exit)) ≡ take m (drop n (now (w .entry))) ⌝ }
+// x lies on one side of p: above it, or below it.
+fn beside(x: u32, p: u32, above: bool) -> bool
+    ensures { λ r. ⌜ r ≡ side above p x ⌝ }
 {
+    if above { p < x } else { x < p }
+}
+
+// Leaves at the front those of the n keys that lie on one side of p, in their order, and says how many they are. Each is stored, and the place moves on by the
+// test.
+fn keep(w: &mut [u32], n: usize, p: u32, above: bool) -> usize
+    requires { ⌜ n ≤ length (now w) ⌝ }
+    ensures { λ k. ⌜ Kept (side above p) (take n (now (w .entry))) k (now (w .exit)) ⌝ }
+{
+    let mut k: usize = 0;
     let mut i = 0;
-    while i < m {
-        w[i] = w[n + i];
+    while i < n {
+        let x = w[i];
+        w[k] = x;
+        k += beside(x, p, above) as usize;
         i += 1;
     }
+    k
+}
+
+// How many keys are left, and which rank is sought among them.
+pub struct Rest {
+    pub n: usize,
+    pub r: usize,
+}
+
+// One step by the pivot p. The keys below p and those above it are counted first; then those on the side that has the rank are left, which alone are moved; none
+// where p itself has it.
+pub fn narrow(w: &mut [u32], n: usize, r: usize, p: u32) -> Rest
+    requires { ⌜ Narrowable (now w) n r p ⌝ }
+    ensures { λ s. ⌜ Narrowed (now (w .entry)) n r p s (now (w .exit)) ⌝ }
+{
+    let c = count(w, n, p);
+    let below = c.below;
+    let upto = n - c.above;
+    if r <= below {
+        let k = keep(w, n, p, false);
+        return Rest { n: k, r };
+    }
+    if r <= upto {
+        return Rest { n: 0, r };
+    }
+    let k = keep(w, n, p, true);
+    Rest { n: k, r: r - upto }
 }
 
 // Takes the least of the n keys at the front out; the others close up.

@@ -10,7 +10,7 @@ use lib.ListN.{length}
 use native.Mathlib.Nat.{le-refl}
 use borrow.Rule.Slice.PartMut.{mid-len, same-len-mid, take-put}
 use Rattle.picker.proofs.Fives.{picked-middle}
-use Rattle.picker.proofs.GoingOn.{Split, here, fewer-below, below-pickable, below-picks, fewer-above, above-pickable, above-picks}
+use Rattle.picker.proofs.GoingOn.{Going, going-first, going-narrowable, going-here, going-on}
 use Rattle.picker.proofs.pick_key.Reads as pick-key
 use Rattle.picker.proofs.pick_key.Kinds as pick-key-kinds
 use Rattle.picker.proofs.+pick_key+pivot.Lts-pick_key as pick-key-lts
@@ -18,8 +18,7 @@ use Rattle.picker.proofs.pivot.Reads as pivot
 use Rattle.picker.proofs.pivot.Kinds as pivot-kinds
 use Rattle.picker.proofs.+pick_key+pivot.Lts-pivot as pivot-lts
 use Rattle.picker.proofs.five.middles.Reads as middles-reads
-use Rattle.picker.proofs.scan.front.Reads as front-reads
-use Rattle.picker.proofs.scan.part.Reads as part-reads
+use Rattle.picker.proofs.scan.narrow.Reads as narrow-reads
 use Rattle.picker.proofs.scan.short.Reads as short-reads
 use Rattle.picker.proofs.+pick_key+pivot.{statement}
 use Rattle.picker.proofs.+pick_key+pivot.Tie.{close}
@@ -44,115 +43,79 @@ abbrev pivot-below : ℕ → In 1 pivot-kinds.ps
 pivot-below t = and 1 pivot-kinds.ps (falls 1 pivot-kinds.ps _<_ μ-pivot t) pivot.Pre
 
 abbrev pick-key-claims : ℕ → pick-key-lts.Claims
-pick-key-claims t = (
-  short-reads.Asked,
-  short-reads.Learnt,
-  pivot-below t,
-  pivot.Post,
-  part-reads.Asked,
-  part-reads.Learnt,
-  pick-key-below t,
-  pick-key.Post,
-  front-reads.Asked,
-  front-reads.Learnt,
-)
+pick-key-claims t = (pivot-below t, pivot.Post, narrow-reads.Asked, narrow-reads.Learnt, short-reads.Asked, short-reads.Learnt)
 
 abbrev pivot-claims : ℕ → pivot-lts.Claims
 pivot-claims t = (middles-reads.Asked, middles-reads.Learnt, pick-key-below t, pick-key.Post)
 
 -- ---- the picker
 
--- what is known of a pick once the keys are parted
-abbrev After-part : ℕ → Type 0
-After-part t = pick-key-lts.After-part (pick-key-claims t) (pick-key-at t) pick-key.Post
+abbrev Inv-loop : pick-key-lts.InvT-loop
+Inv-loop w₀ n r m₀ s₀ w m s = Going w₀ n r w m s
 
-abbrev pivot-of : (t : ℕ) → After-part t → pick-key-lts.After-pivot (pick-key-claims t) (pick-key-at t) pick-key.Post
+abbrev μ-loop : pick-key-lts.MeasureT-loop
+μ-loop w₀ n r m₀ s₀ w m s = m
+
+-- what is known of a step once the pivot is found, and once it has narrowed the keys
+abbrev After-pivot : ℕ → Type 0
+After-pivot t = pick-key-lts.After-pivot (pick-key-claims t) (pick-key-at t) pick-key.Post Inv-loop μ-loop
+
+abbrev loop-of : (t : ℕ) → After-pivot t → pick-key-lts.At-loop (pick-key-claims t) (pick-key-at t) pick-key.Post Inv-loop μ-loop
+loop-of t c = c .before .before .before
+
+abbrev After-narrow : ℕ → Type 0
+After-narrow t = pick-key-lts.After-narrow (pick-key-claims t) (pick-key-at t) pick-key.Post Inv-loop μ-loop
+
+abbrev pivot-of : (t : ℕ) → After-narrow t → After-pivot t
 pivot-of t c = c .before .before .before .before
 
-abbrev start-of : (t : ℕ) → After-part t → pick-key-lts.Start (pick-key-claims t) (pick-key-at t) pick-key.Post
-start-of t c = pivot-of t c .before .before .before .before
-
-split : (t : ℕ) (c : After-part t)
-    → Split
-    (start-of t c .args .w .now)
-    (start-of t c .args .n)
-    (start-of t c .args .r)
-    (pivot-of t c .pivot .result)
-    (pivot-of t c .pivot .last .0)
-    (c .part .result)
-    (c .part .last .0)
-split t c =
-    record {
-      pre = start-of t c .pre .1;
-      many = pivot-of t c .before .before .if1 .left;
-      pivot = pivot-of t c .pivot .ensures;
-      parted = c .part .ensures;
-      now-long = pivot-of t c .pivot .kept .0;
-      after-long = c .part .kept .0;
-    }
-
--- the keys below the pivot
-pick-key-requires : (t : ℕ) → pick-key-lts.Need-pick-key-requires (pick-key-claims t) (pick-key-at t) pick-key.Post
-pick-key-requires t c κs =
-    let parted = c .before .before .before .before in
-    (omega (arith, fewer-below (split t parted), start-of t parted .pre .0), below-pickable (split t parted) (omega (arith, c .before .if2 .taken)))
-
-same-length-below : (t : ℕ) → pick-key-lts.Need-same-length-2 (pick-key-claims t) (pick-key-at t) pick-key.Post
-same-length-below t c =
-    let picked = c .before .before in
-    let parted = picked .before .before .before .before .before in
-    picked .pick-key .kept .0 ∙ parted .part .kept .0 ∙ pivot-of t parted .pivot .kept .0
-
-returns-below : (t : ℕ) → pick-key-lts.Need-returns-2 (pick-key-claims t) (pick-key-at t) pick-key.Post
-returns-below t c = let picked = c .before .before in below-picks (split t (picked .before .before .before .before .before)) (picked .pick-key .ensures)
-
--- the pivot itself
-same-length-here : (t : ℕ) → pick-key-lts.Need-same-length-3 (pick-key-claims t) (pick-key-at t) pick-key.Post
-same-length-here t c = let parted = c .before .before .before .before in parted .part .kept .0 ∙ pivot-of t parted .pivot .kept .0
-
-returns-here : (t : ℕ) → pick-key-lts.Need-returns-3 (pick-key-claims t) (pick-key-at t) pick-key.Post
-returns-here t c = here (split t (c .before .before .before .before)) (omega (arith, c .before .if2 .left)) (omega (arith, c .if3 .taken))
-
--- the keys above the pivot
-front-requires : (t : ℕ) → pick-key-lts.Need-front-requires (pick-key-claims t) (pick-key-at t) pick-key.Post
-front-requires t c κs =
-    let parted = c .before .before .before .before .before in
-    let s = split t parted in
-    omega (arith, fewer-above s, s .pre .room, s .now-long, s .after-long)
-
-pick-key-requires-2 : (t : ℕ) → pick-key-lts.Need-pick-key-requires-2 (pick-key-claims t) (pick-key-at t) pick-key.Post
-pick-key-requires-2 t c κs =
-    let moved = c .before .before .before in
-    let many = moved .before .before in
-    let parted = many .before .before .before .before in (
-      omega (arith, fewer-above (split t parted), start-of t parted .pre .0),
-      above-pickable (split t parted) (omega (arith, many .if3 .left)) (moved .front .last .0) (moved .front .kept .0) (moved .front .ensures),
+pivot-requires : (t : ℕ) → pick-key-lts.Need-pivot-requires (pick-key-claims t) (pick-key-at t) pick-key.Post Inv-loop μ-loop
+pivot-requires t c κs =
+    let going = c .before .before .loop .inv in (
+      omega (arith, going .few, c .before .before .before .before .pre .0),
+      record { five = omega (arith, c .before .loop-test .taken); room = going .asked .room },
     )
 
-same-length-above : (t : ℕ) → pick-key-lts.Need-same-length-4 (pick-key-claims t) (pick-key-at t) pick-key.Post
-same-length-above t c =
-    let picked = c .before .before in
-    let moved = picked .before .before .before .before in
-    let parted = moved .before .before .before .before .before .before in
-    picked .pick-key2 .kept .0 ∙ moved .front .kept .0 ∙ parted .part .kept .0 ∙ pivot-of t parted .pivot .kept .0
+narrow-requires : (t : ℕ) → pick-key-lts.Need-narrow-requires (pick-key-claims t) (pick-key-at t) pick-key.Post Inv-loop μ-loop
+narrow-requires t c κs =
+    let found = c .before .before .before in
+    going-narrowable (loop-of t found .loop .inv) (found .pivot .ensures) (found .pivot .kept .0) (omega (arith, found .before .before .loop-test .taken))
 
-returns-above : (t : ℕ) → pick-key-lts.Need-returns-4 (pick-key-claims t) (pick-key-at t) pick-key.Post
-returns-above t c =
+returns-here : (t : ℕ) → pick-key-lts.Need-returns (pick-key-claims t) (pick-key-at t) pick-key.Post Inv-loop μ-loop
+returns-here t c =
+    let narrowed = c .before .before .before .before in
+    let found = pivot-of t narrowed in
+    record {
+      rank = going-here (loop-of t found .loop .inv) (found .pivot .ensures) (found .pivot .kept .0) (narrowed .narrow .ensures) (c .if1 .taken);
+    }
+
+loop-again : (t : ℕ) → pick-key-lts.Need-loop-again (pick-key-claims t) (pick-key-at t) pick-key.Post Inv-loop μ-loop
+loop-again t c =
+    let narrowed = c .before .before .before .before in
+    let found = pivot-of t narrowed in
+    going-on
+    (loop-of t found .loop .inv)
+    (found .pivot .ensures)
+    (found .pivot .kept .0)
+    (narrowed .narrow .ensures)
+    (narrowed .narrow .kept .0)
+    (c .if1 .left)
+
+same-length-here : (t : ℕ) → pick-key-lts.Need-same-length (pick-key-claims t) (pick-key-at t) pick-key.Post Inv-loop μ-loop
+same-length-here t c =
+    let narrowed = c .before .before .before .before in
+    let found = pivot-of t narrowed in
+    narrowed .narrow .kept .0 ∙ found .pivot .kept .0 ∙ loop-of t found .loop .inv .long
+
+returns-short : (t : ℕ) → pick-key-lts.Need-returns-2 (pick-key-claims t) (pick-key-at t) pick-key.Post Inv-loop μ-loop
+returns-short t c =
     let picked = c .before .before in
-    let moved = picked .before .before .before .before in
-    let many = moved .before .before in
-    above-picks
-    (split t (many .before .before .before .before))
-    (omega (arith, many .if3 .left))
-    (moved .front .last .0)
-    (moved .front .kept .0)
-    (moved .front .ensures)
-    (picked .pick-key2 .ensures)
+    record { rank = picked .before .before .before .loop .inv .back (picked .short .result) (picked .short .ensures) }
 
 -- ---- the pivot finder
 
-pivot-requires : (t : ℕ) → pivot-lts.Need-pick-key-requires (pivot-claims t) (pivot-at t) pivot.Post
-pivot-requires t c κs =
+pick-key-requires : (t : ℕ) → pivot-lts.Need-pick-key-requires (pivot-claims t) (pivot-at t) pivot.Post
+pick-key-requires t c κs =
     let made = c .before .before .before in
     let start = made .before .before .before in
     let groups = made .middles .ensures .groups in
@@ -192,22 +155,18 @@ pub +pick-key+pivot-spec : {M : Type 1} → statement M
     (pick-key-claims t)
     (pick-key-at t)
     pick-key.Post
-    (λ c κs. c .before .before .before .pre .1)
-    (λ c. c .before .before .short .kept .0)
-    (λ c. record { rank = c .before .before .short .ensures })
-    (λ c κs. (omega arith, record { five = omega arith; room = omega arith }))
-    (λ c κs. omega (arith, c .before .before .before .pivot .kept .0, c .before .before .before .before .before .before .before .pre .1 .room))
-    (λ c. omega (arith, fewer-above (split t (c .before .before))))
-    (pick-key-requires t)
-    (same-length-below t)
-    (returns-below t)
+    Inv-loop
+    μ-loop
+    (λ c. going-first (c .before .pre .1))
+    (pivot-requires t)
+    (narrow-requires t)
     (same-length-here t)
     (returns-here t)
-    (front-requires t)
-    (λ c. omega (arith, c .before .before .before .before .before .if3 .left))
-    (pick-key-requires-2 t)
-    (same-length-above t)
-    (returns-above t))
+    (λ c. c .before .before .before .before .narrow .ensures .fewer)
+    (loop-again t)
+    (λ c κs. c .before .before .loop .inv .asked)
+    (λ c. c .before .before .short .kept .0 ∙ c .before .before .before .before .before .loop .inv .long)
+    (returns-short t))
     λ t. pivot-lts.spec
     (pivot-claims t)
     (pivot-at t)
@@ -218,6 +177,6 @@ pub +pick-key+pivot-spec : {M : Type 1} → statement M
     (λ c. search needs)
     (λ c. search needs)
     (λ c. omega arith)
-    (pivot-requires t)
+    (pick-key-requires t)
     (pivot-same-length t)
     (pivot-returns t)

@@ -8,16 +8,13 @@ use Rattle.picker.proofs.five.middles.Statement.{statement}
 use Rattle.picker.proofs.five.middles.Tie as tie
 
 abbrev Inv-loop : tie.InvT-loop
-Inv-loop w₀ n g i₀ w i = (i ≤ g) × Grouping w₀ n w i
+Inv-loop w₀ n g i₀ w i = (i ≤ g) × Grouping w₀ n g w i
 
 abbrev μ-loop : tie.MeasureT-loop
 μ-loop w₀ n g i₀ w i = g - i
 
 loop-holds : tie.Need-loop-holds Inv-loop μ-loop
-loop-holds c = (omega arith, grouping-none (c .before .args .w .now) (c .before .args .n))
-
-mul-middle-at : tie.Need-mul-middle-at Inv-loop μ-loop
-mul-middle-at c = omega arith
+loop-holds c = (omega arith, grouping-none (c .before .args .w .now) (c .before .args .n) (c .before .args .n / 5))
 
 middle-at-requires : tie.Need-middle-at-requires Inv-loop μ-loop
 middle-at-requires c κs = omega arith
@@ -43,7 +40,7 @@ loop-again c =
     let l = c .before .before .before .loop in
     let room = c .before .before .before .before .before .pre in (
       omega arith,
-      grouping-more (a .w .now) (a .n) room (l .w) (l .i) (c .middle-at .result) (c .before .before .loop-test .taken) (c .middle-at .ensures) (l .inv .1),
+      grouping-more (a .w .now) (a .n) (a .n / 5) room refl (l .w) (l .i) (c .middle-at .result) (c .before .before .loop-test .taken) (c .middle-at .ensures) (l .inv .1),
     )
 
 same-length : tie.Need-same-length Inv-loop μ-loop
@@ -53,7 +50,7 @@ returns : tie.Need-returns Inv-loop μ-loop
 returns c =
     let start = c .before .before .before in
     let l = c .before .loop in
-    grouping-all (start .args .w .now) (start .args .n) (start .pre) (l .w) (start .args .n / 5) (l .i) refl (c .loop-test .left) (l .inv .0) (l .inv .1)
+    grouping-all (start .args .w .now) (start .args .n) (start .args .n / 5) (start .pre) refl (l .w) (l .i) (c .loop-test .left) (l .inv .0) (l .inv .1)
 
 pub middles-spec : {M : Type 1} → statement M
 middles-spec =
@@ -62,7 +59,6 @@ middles-spec =
     Inv-loop
     μ-loop
     loop-holds
-    mul-middle-at
     middle-at-requires
     add-w
     mul-w
