@@ -186,42 +186,6 @@ mod counted {
             scratch_len: usize,
         ) -> *mut Counted;
 
-        fn nuoskelma_join(
-            answer: *mut Counted,
-            east: *const i32,
-            east_len: usize,
-            north: *const i32,
-            north_len: usize,
-            east2: *const i32,
-            east2_len: usize,
-            north2: *const i32,
-            north2_len: usize,
-            out_east: *mut i32,
-            out_east_len: usize,
-            out_north: *mut i32,
-            out_north_len: usize,
-            scratch: *mut u32,
-            scratch_len: usize,
-        ) -> *mut Counted;
-
-        fn nuoskelma_sum(
-            answer: *mut Counted,
-            east: *const i32,
-            east_len: usize,
-            north: *const i32,
-            north_len: usize,
-            east2: *const i32,
-            east2_len: usize,
-            north2: *const i32,
-            north2_len: usize,
-            out_east: *mut i32,
-            out_east_len: usize,
-            out_north: *mut i32,
-            out_north_len: usize,
-            scratch: *mut u32,
-            scratch_len: usize,
-        ) -> *mut Counted;
-
         fn nuoskelma_turn_about(
             answer: *mut Counted,
             east: *const i32,
@@ -291,43 +255,57 @@ mod counted {
         answer.told()
     }
 
-    /// Calls an entry that makes a ring of two.
+    /// An entry that makes a ring of two rings: it answers how many of its corners stand at the front of the output, or the refusal's number.
     macro_rules! of_two {
-        ($entry:ident, $first:ident, $second:ident, $out:ident, $scratch:ident) => {{
-            let mut answer = Counted::NONE;
-            // as for pick
-            unsafe {
-                $entry(
-                    &mut answer,
-                    $first.east.as_ptr(),
-                    $first.east.len(),
-                    $first.north.as_ptr(),
-                    $first.north.len(),
-                    $second.east.as_ptr(),
-                    $second.east.len(),
-                    $second.north.as_ptr(),
-                    $second.north.len(),
-                    $out.east.as_mut_ptr(),
-                    $out.east.len(),
-                    $out.north.as_mut_ptr(),
-                    $out.north.len(),
-                    $scratch.as_mut_ptr(),
-                    $scratch.len(),
-                )
-            };
-            answer.told()
-        }};
+        ($name:ident, $entry:ident) => {
+            pub fn $name(first: &Sheet, second: &Sheet, out: &mut Sheet, scratch: &mut [u32]) -> Result<usize, u32> {
+                extern "C" {
+                    fn $entry(
+                        answer: *mut Counted,
+                        east: *const i32,
+                        east_len: usize,
+                        north: *const i32,
+                        north_len: usize,
+                        east2: *const i32,
+                        east2_len: usize,
+                        north2: *const i32,
+                        north2_len: usize,
+                        out_east: *mut i32,
+                        out_east_len: usize,
+                        out_north: *mut i32,
+                        out_north_len: usize,
+                        scratch: *mut u32,
+                        scratch_len: usize,
+                    ) -> *mut Counted;
+                }
+                let mut answer = Counted::NONE;
+                // as for pick
+                unsafe {
+                    $entry(
+                        &mut answer,
+                        first.east.as_ptr(),
+                        first.east.len(),
+                        first.north.as_ptr(),
+                        first.north.len(),
+                        second.east.as_ptr(),
+                        second.east.len(),
+                        second.north.as_ptr(),
+                        second.north.len(),
+                        out.east.as_mut_ptr(),
+                        out.east.len(),
+                        out.north.as_mut_ptr(),
+                        out.north.len(),
+                        scratch.as_mut_ptr(),
+                        scratch.len(),
+                    )
+                };
+                answer.told()
+            }
+        };
     }
 
-    /// How many corners of the join of two rings stand at the front of the output, or the refusal's number.
-    pub fn join(first: &Sheet, second: &Sheet, out: &mut Sheet, scratch: &mut [u32]) -> Result<usize, u32> {
-        of_two!(nuoskelma_join, first, second, out, scratch)
-    }
-
-    /// How many corners of the sum of two rings stand at the front of the output, or the refusal's number.
-    pub fn sum(first: &Sheet, second: &Sheet, out: &mut Sheet, scratch: &mut [u32]) -> Result<usize, u32> {
-        of_two!(nuoskelma_sum, first, second, out, scratch)
-    }
+    of_two!(join, nuoskelma_join);
+    of_two!(sum, nuoskelma_sum);
 
     /// How many corners of a ring turned about stand at the front of the output, or the refusal's number.
     pub fn turn_about(ring: &Sheet, out: &mut Sheet) -> Result<usize, u32> {
@@ -355,9 +333,7 @@ mod counted {
         let mut answer = Counted::NONE;
         let Sheet { east, north } = out;
         // as for pick
-        unsafe {
-            nuoskelma_record(&mut answer, bytes.as_ptr(), bytes.len(), east.as_mut_ptr(), east.len(), north.as_mut_ptr(), north.len())
-        };
+        unsafe { nuoskelma_record(&mut answer, bytes.as_ptr(), bytes.len(), east.as_mut_ptr(), east.len(), north.as_mut_ptr(), north.len()) };
         answer.told()
     }
 
@@ -416,8 +392,15 @@ mod asked {
             y: i32,
         ) -> *mut StrongestSet;
 
-        fn nuoskelma_cover(answer: *mut Covered, east: *const i32, east_len: usize, north: *const i32, north_len: usize, x: i32, y: i32)
-            -> *mut Covered;
+        fn nuoskelma_cover(
+            answer: *mut Covered,
+            east: *const i32,
+            east_len: usize,
+            north: *const i32,
+            north_len: usize,
+            x: i32,
+            y: i32,
+        ) -> *mut Covered;
     }
 
     /// The strongest set on a course and its first place, or the refusal's number.
