@@ -74,7 +74,7 @@ module _ {A : Type 0} where
       go true e r m = ⊎_elim (λ h. (Memᴰ.head h, ap f h ∙ e)) (λ h. deeper (r h)) (Memᴰ.cases_cons m)
       go false e r m = deeper (r m)
 
-  pub in_those : (f : A → Bool) {xs : List A} {p : A} → Memᴰ p xs → f p ≡ true → Memᴰ p (those f xs)
+  pub in_those : (f : A → Bool) {p : A} {xs : List A} → Memᴰ p xs → f p ≡ true → Memᴰ p (those f xs)
   unfolding those
   in_those f {p} (Memᴰ.head {x} {xs} h) e = go (f x) (sym (ap f h) ∙ e)
     where
@@ -103,7 +103,7 @@ module _ {A : Type 0} where
       go false true i r = omega arith
       go false false i r = r
 
-  pub those_fewer : (f g : A → Bool) → ((x : A) → f x ≡ true → g x ≡ true) → {xs : List A} {p : A} → Memᴰ p xs → f p ≡ false → g p ≡ true
+  pub those_fewer : (f g : A → Bool) → ((x : A) → f x ≡ true → g x ≡ true) → {p : A} {xs : List A} → Memᴰ p xs → f p ≡ false → g p ≡ true
       → length (those f xs) < length (those g xs)
   unfolding those
   those_fewer f g le (Memᴰ.head {x} {xs} h) n y = go (f x) (g x) (sym (ap f h) ∙ n) (sym (ap g h) ∙ y) (those_less f g le xs)
@@ -182,7 +182,7 @@ module _ {A : Type 0} where
   at_place_in (x ∷ xs) zero d h = Memᴰ.head refl
   at_place_in (x ∷ xs) (suc i) d h = Memᴰ.tail (at_place_in xs i d (omega arith))
 
-  pub in_place : (xs : List A) (d : A) {p : A} → Memᴰ p xs → (i : ℕ) × (i < length xs) × (p ≡ get_or xs i d)
+  pub in_place : {p : A} (xs : List A) (d : A) → Memᴰ p xs → (i : ℕ) × (i < length xs) × (p ≡ get_or xs i d)
   in_place xs d (Memᴰ.head e) = (0, omega arith, e)
   in_place xs d (Memᴰ.tail {xs = ys} m) = let h = in_place ys d m in (suc h.0, (let l = h.1 in omega arith), h.2)
 
@@ -196,7 +196,7 @@ module _ {A : Type 0} where
       deeper : (p : A) × Memᴰ p xs × (f p ≡ true) → (p : A) × Memᴰ p (x ∷ xs) × (f p ≡ true)
       deeper h = (h.0, Memᴰ.tail h.1, h.2)
 
-  pub is_some_of : (f : A → Bool) {xs : List A} {p : A} → Memᴰ p xs → f p ≡ true → some_of f xs ≡ true
+  pub is_some_of : (f : A → Bool) {p : A} {xs : List A} → Memᴰ p xs → f p ≡ true → some_of f xs ≡ true
   unfolding some_of
   is_some_of f (Memᴰ.head {x} {xs} h) e = rw (sym (ap f h) ∙ e) refl
   is_some_of f (Memᴰ.tail {x} {xs} m) e = go (f x) (is_some_of f m e)
@@ -211,7 +211,7 @@ module _ {A : Type 0} where
   pub is_none_of : (f : A → Bool) (xs : List A) → ((p : A) → Memᴰ p xs → f p ≡ false) → some_of f xs ≡ false
   is_none_of f xs h = is_no (some_of f xs) (λ e. let s = some_of_is f xs e in not-both s.2 (h s.0 s.1))
 
-  pub all_of_is : (f : A → Bool) (xs : List A) {p : A} → all_of f xs ≡ true → Memᴰ p xs → f p ≡ true
+  pub all_of_is : (f : A → Bool) {p : A} (xs : List A) → all_of f xs ≡ true → Memᴰ p xs → f p ≡ true
   unfolding all_of
   all_of_is f xs e (Memᴰ.head {x} {xs = ys} h) = ap f h ∙ (both_yes (f x) (all_of f ys) e).0
   all_of_is f xs e (Memᴰ.tail {x} {xs = ys} m) = all_of_is f ys (both_yes (f x) (all_of f ys) e).1 m

@@ -61,7 +61,7 @@ module _ {A : Type 0} where
       go true q e r = let h = some-injective y x e in (Memᴰ.head (sym h), ap f (sym h) ∙ q)
       go false q e r = let h = r e in (Memᴰ.tail h.0, h.1)
 
-  pub first_of_some : (f : A → Bool) {xs : List A} {x : A} → Memᴰ x xs → f x ≡ true → (y : A) × (first_of f xs ≡ some y)
+  pub first_of_some : (f : A → Bool) {x : A} {xs : List A} → Memᴰ x xs → f x ≡ true → (y : A) × (first_of f xs ≡ some y)
   unfolding first_of
   first_of_some f (Memᴰ.head {x = y} {xs} h) e = go (f y) (sym (ap f h) ∙ e)
     where

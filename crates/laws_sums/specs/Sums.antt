@@ -74,11 +74,11 @@ sums_in (p ∷ r) t {s} m = ⊎_elim here (λ n. later (sums_in r t n)) (Memᴰ.
     later : Sum (Of r) (Of t) s → Sum (Of (p ∷ r)) (Of t) s
     later a = record { first = a.first; second = a.second; of_first = Memᴰ.tail a.of_first; of_second = a.of_second; adds = a.adds }
 
-pub in_sums : {r t : List Stream} {p q : Stream} → Memᴰ p r → Memᴰ q t → Memᴰ (added p q) (sums r t)
+pub in_sums : {p q : Stream} {t : List Stream} {r : List Stream} → Memᴰ p r → Memᴰ q t → Memᴰ (added p q) (sums r t)
 unfolding sums
-in_sums {t} {q} (Memᴰ.head {x} {xs} e) n =
+in_sums {p} {q} {t} (Memᴰ.head {x} {xs} e) n =
     Memᴰ.append_left (sums xs t) (Memᴰ.cast (ap (λ (o : Stream). added o q) e) (Memᴰ.map (added x) n))
-in_sums {t} (Memᴰ.tail {x} {xs} m) n = Memᴰ.append_right (map (added x) t) (in_sums m n)
+in_sums {p} {q} {t} (Memᴰ.tail {x} {xs} m) n = Memᴰ.append_right (map (added x) t) (in_sums m n)
 
 -- the list has these sums and no others
 pub sums_members : (r t : List Stream) (s : Stream) → Memᴰ s (sums r t) ↔ Sum (Of r) (Of t) s
