@@ -12,7 +12,7 @@ use samples::tests::{Tested, of_samples, spans};
 use samples::words::clear;
 
 // The two ends of a bridge, by their numbers.
-#[derive(Drop)]
+#[derive(Clone, Copy)]
 pub struct Ends {
     pub left: u32,
     pub right: u32,
@@ -68,7 +68,7 @@ fn tested(east: &[i32], north: &[i32], a: i32, room: usize) -> Tested
 }
 
 // The answer: the two ends, left first, or a refusal's number and place.
-#[derive(Drop)]
+#[derive(Clone, Copy)]
 pub enum BridgeAnswer {
     Found { left: u32, right: u32 },
     Refused { number: u32, place: usize },

@@ -7,7 +7,7 @@ ghost use Rattle.chains.specs.Promise.{ChainsPromise};
 use sides::{Sides, sides_of};
 
 // The answer of chains: the counts of the upper and of the lower chain, whose sample numbers lie in the outputs, or a refusal's number and place.
-#[derive(Drop)]
+#[derive(Clone, Copy)]
 pub enum ChainsAnswer {
     Done { upper: usize, lower: usize },
     Refused { number: u32, place: usize },

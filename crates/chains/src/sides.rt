@@ -10,7 +10,7 @@ use step::lists::first;
 use step::{Stepped, chain};
 
 // What is said of both sides: the counts of their corners, whose sample numbers stand in scratch, or a refusal's number and place.
-#[derive(Drop)]
+#[derive(Clone, Copy)]
 pub enum Sides {
     Both { upper: usize, lower: usize },
     Refused { number: u32, place: usize },

@@ -11,7 +11,7 @@ use samples::streams::same;
 use walk::corners::listed;
 
 // The places of the lower chain that are not left out: lo to before hi.
-#[derive(Drop)]
+#[derive(Clone, Copy)]
 pub struct LowerPart {
     pub lo: usize,
     pub hi: usize,

@@ -13,7 +13,7 @@ use samples::tests::{MOST, too_short};
 const LIMIT: f64 = 1000000.0;
 
 // What the door makes of one float.
-#[derive(Drop)]
+#[derive(Clone, Copy)]
 pub enum PartAnswer {
     Whole(i32),
     NotANumber,
@@ -22,14 +22,14 @@ pub enum PartAnswer {
 }
 
 // An east and a north together.
-#[derive(Drop)]
+#[derive(Clone, Copy)]
 pub struct Reading {
     pub east: f64,
     pub north: f64,
 }
 
 // What the door answers over two lists: how many readings it took, or a refusal's number and place, with the float itself where it is handed back.
-#[derive(Drop)]
+#[derive(Clone, Copy)]
 pub enum ReadingsAnswer {
     Done(usize),
     Refused {

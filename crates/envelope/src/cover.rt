@@ -14,7 +14,7 @@ use samples::streams::{Stream, at, not_left, same, side};
 use samples::tests::Tested;
 
 // Yes or no, or a refusal's number and place.
-#[derive(Drop)]
+#[derive(Clone, Copy)]
 pub enum Covered {
     Yes,
     No,

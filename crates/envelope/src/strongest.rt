@@ -13,7 +13,7 @@ use samples::streams::{Stream, at, set_on};
 use samples::tests::Tested;
 
 // The greatest set and the first place that has it, or a refusal's number and place.
-#[derive(Drop)]
+#[derive(Clone, Copy)]
 pub enum StrongestSet {
     Greatest { set: i64, place: usize },
     Refused { number: u32, place: usize },

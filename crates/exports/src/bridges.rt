@@ -7,7 +7,7 @@ ghost use Rattle.exports.specs.Bridges.{bridge_face};
 use bridge::BridgeAnswer;
 
 #[repr(C)]
-#[derive(Drop)]
+#[derive(Clone, Copy)]
 pub struct Bridged {
     pub number: u32,
     pub place: usize,

@@ -7,7 +7,7 @@ ghost use Rattle.exports.specs.Chains.{chains_face, uppers, lowers};
 use chains::ChainsAnswer;
 
 #[repr(C)]
-#[derive(Drop)]
+#[derive(Clone, Copy)]
 pub struct ChainsC {
     pub number: u32,
     pub place: usize,

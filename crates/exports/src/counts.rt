@@ -6,7 +6,7 @@ ghost use Rattle.exports.specs.Rings.{count_face};
 use samples::answers::Counted;
 
 #[repr(C)]
-#[derive(Drop)]
+#[derive(Clone, Copy)]
 pub struct CountedC {
     pub number: u32,
     pub place: usize,

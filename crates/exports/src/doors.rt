@@ -7,7 +7,7 @@ ghost use Rattle.exports.specs.Doors.{part_face, readings_face};
 use door::{PartAnswer, ReadingsAnswer};
 
 #[repr(C)]
-#[derive(Drop)]
+#[derive(Clone, Copy)]
 pub struct PartTaken {
     pub number: u32,
     pub value: i32,
@@ -15,7 +15,7 @@ pub struct PartTaken {
 }
 
 #[repr(C)]
-#[derive(Drop)]
+#[derive(Clone, Copy)]
 pub struct ReadingsTaken {
     pub number: u32,
     pub place: usize,

@@ -6,14 +6,14 @@ ghost use Rattle.exports.specs.Hands.{hand_at, made_face, stepped_face};
 use hand::{Edge, Hand, Made};
 
 #[repr(C)]
-#[derive(Drop)]
+#[derive(Clone, Copy)]
 pub struct HandC {
     pub count: usize,
     pub place: usize,
 }
 
 #[repr(C)]
-#[derive(Drop)]
+#[derive(Clone, Copy)]
 pub struct HandMade {
     pub number: u32,
     pub place: usize,
@@ -21,7 +21,7 @@ pub struct HandMade {
 }
 
 #[repr(C)]
-#[derive(Drop)]
+#[derive(Clone, Copy)]
 pub struct HandStepped {
     pub number: u32,
     pub place: usize,

@@ -7,7 +7,7 @@ ghost use Rattle.exports.specs.Picks.{picked_face};
 use picker::Picked;
 
 #[repr(C)]
-#[derive(Drop)]
+#[derive(Clone, Copy)]
 pub struct PickedC {
     pub number: u32,
     pub place: usize,

@@ -8,7 +8,7 @@ use round::RoundAnswer;
 
 // Kind 1 is a bridge, left and right; kind 2 is a kept list of so many numbers; a refusal has kind 0.
 #[repr(C)]
-#[derive(Drop)]
+#[derive(Clone, Copy)]
 pub struct RoundSaid {
     pub number: u32,
     pub place: usize,

@@ -9,7 +9,7 @@ use envelope::cover::Covered;
 use envelope::strongest::StrongestSet;
 
 #[repr(C)]
-#[derive(Drop)]
+#[derive(Clone, Copy)]
 pub struct StrongestC {
     pub number: u32,
     pub place: usize,
@@ -18,7 +18,7 @@ pub struct StrongestC {
 }
 
 #[repr(C)]
-#[derive(Drop)]
+#[derive(Clone, Copy)]
 pub struct CoverTold {
     pub number: u32,
     pub place: usize,

@@ -11,7 +11,7 @@ ghost use Rattle.halves.specs.Scans.{Crest, turn_of, home_of};
 use samples::streams::{Stream, at};
 
 // The half that goes there stands from place 0 over so many sides; the one that goes back from place `turn` over so many, place 0 again after the last.
-#[derive(Drop)]
+#[derive(Clone, Copy)]
 pub struct Halves {
     pub there: usize,
     pub turn: usize,

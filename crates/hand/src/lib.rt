@@ -7,28 +7,28 @@ ghost use Rattle.hand.specs.HandAnswers.{hand_at, made_as, edge_as};
 
 use samples::tests::MOST;
 
-#[derive(Drop)]
+#[derive(Clone, Copy)]
 pub struct Hand {
     pub count: usize,
     pub place: usize,
 }
 
 // What comes of making a hand: the hand, or a refusal's number and place.
-#[derive(Drop)]
+#[derive(Clone, Copy)]
 pub enum Made {
     At(Hand),
     Refused { number: u32, place: usize },
 }
 
 // What a step finds: the present edge as two places, or a refusal's number and place.
-#[derive(Drop)]
+#[derive(Clone, Copy)]
 pub enum Edge {
     Between { from: usize, to: usize },
     Refused { number: u32, place: usize },
 }
 
 // What a step gives: the edge, and the hand one place on. A refused step hands back the hand as it came.
-#[derive(Drop)]
+#[derive(Clone, Copy)]
 pub struct Step {
     pub edge: Edge,
     pub next: Hand,

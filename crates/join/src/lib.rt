@@ -20,7 +20,7 @@ use walk::chain::chain;
 use walk::draw::Way;
 
 // The ways over a ring's corners from west to east: over `above` corners from place 0 on, and over `below` corners from place `home` back.
-#[derive(Drop)]
+#[derive(Clone, Copy)]
 struct BothWays {
     above: usize,
     home: usize,

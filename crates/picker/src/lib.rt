@@ -12,14 +12,14 @@ use samples::tests::MOST;
 use samples::words::clear;
 
 // The answer: the number of the asked rank, or the refusal's number and place.
-#[derive(Drop)]
+#[derive(Clone, Copy)]
 pub enum Picked {
     Done(i32),
     Refused { number: u32, place: usize },
 }
 
 // What a pick says: the key of the asked rank.
-#[derive(Drop)]
+#[derive(Clone, Copy)]
 pub struct Ranked {
     pub key: u32,
 }

@@ -8,14 +8,14 @@ ghost use Rattle.picker.specs.Picking.{Pickable, Counted, side, Narrowable, Narr
 use super::five::{greater, lesser};
 
 // How many keys are below a key, and how many above it.
-#[derive(Drop)]
+#[derive(Clone, Copy)]
 struct Counts {
     below: usize,
     above: usize,
 }
 
 // The same of a run of keys, in words, which the compiler adds several at once.
-#[derive(Drop)]
+#[derive(Clone, Copy)]
 struct RunCounts {
     below: u32,
     above: u32,
@@ -88,7 +88,7 @@ fn keep(w: &mut [u32], n: usize, p: u32, above: bool) -> usize
 }
 
 // How many keys are left, and which rank is sought among them.
-#[derive(Drop)]
+#[derive(Clone, Copy)]
 pub struct Rest {
     pub n: usize,
     pub r: usize,

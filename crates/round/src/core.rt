@@ -9,7 +9,7 @@ use samples::streams::east;
 use slopes::{Slope, pick_slope};
 
 // What a round says: the two ends of the bridge, left first, or how many numbers it keeps.
-#[derive(Drop)]
+#[derive(Clone, Copy)]
 pub enum Said {
     Found { left: u32, right: u32 },
     Kept(usize),

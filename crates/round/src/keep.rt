@@ -11,7 +11,7 @@ use samples::streams::{Stream, position_of};
 use slopes::Slope;
 
 // Which of a pair are kept.
-#[derive(Drop)]
+#[derive(Clone, Copy)]
 pub struct Keeps {
     pub first: bool,
     pub second: bool,

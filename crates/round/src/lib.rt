@@ -14,7 +14,7 @@ use samples::tests::{MOST, Tested, first_beyond, first_unlisted, list_spans};
 use samples::words::{clear, write};
 
 // The answer of a round: the two ends of the bridge, left first; or how many numbers it keeps, which lie in the output; or a refusal's number and place.
-#[derive(Drop)]
+#[derive(Clone, Copy)]
 pub enum RoundAnswer {
     Found { left: u32, right: u32 },
     Kept(usize),

@@ -18,21 +18,21 @@ const SPREAD: i64 = 2000001;
 const LONG: usize = 100;
 
 // A sample with its key.
-#[derive(Drop)]
+#[derive(Clone, Copy)]
 pub struct Top {
     pub key: i64,
     pub number: u32,
 }
 
 // The keys of a sample: the top furthest west is the first with the greatest of the one, the top furthest east the first with the greatest of the other.
-#[derive(Drop)]
+#[derive(Clone, Copy)]
 pub struct Keys {
     pub west: i64,
     pub east: i64,
 }
 
 // The top furthest west and the one furthest east, each with its east.
-#[derive(Drop)]
+#[derive(Clone, Copy)]
 pub struct Tops {
     pub left: u32,
     pub from: i64,

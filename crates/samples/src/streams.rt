@@ -12,7 +12,7 @@ ghost use Rattle.samples.specs.HeldStream.{stream_of};
 const LIMIT: i32 = 1000000;
 
 // A stream: an east part and a north part.
-#[derive(Drop)]
+#[derive(Clone, Copy)]
 pub struct Stream {
     pub east: i32,
     pub north: i32,

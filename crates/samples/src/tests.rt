@@ -9,7 +9,7 @@ ghost use Rattle.samples.specs.Tests.{tested_of, room_tests};
 use super::streams::{east, part_beyond};
 
 // What comes of an entry's tests: all are passed, or the first that holds refuses with its number and place.
-#[derive(Drop)]
+#[derive(Clone, Copy)]
 pub enum Tested {
     Passed,
     Refused { number: u32, place: usize },

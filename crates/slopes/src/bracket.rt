@@ -8,7 +8,7 @@ use super::scan::{Rest, not_above, not_below};
 use super::{Slope, pick};
 
 // How the ends are found: one of every so many slopes is sampled, and in the sample they stand so many places below and above the rank.
-#[derive(Drop)]
+#[derive(Clone, Copy)]
 struct Sampling {
     every: usize,
     reach: usize,

@@ -5,7 +5,7 @@ ghost use Rattle.slopes.specs.Passes.{Stands, Listed, Capped, Gatherable, Gather
 use super::words::{copy, less, slope_at};
 
 // Two places, in the order of their slopes.
-#[derive(Drop)]
+#[derive(Clone, Copy)]
 struct Pair {
     low: usize,
     high: usize,

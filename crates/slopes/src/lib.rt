@@ -11,14 +11,14 @@ ghost use Rattle.slopes.specs.Fractions.{as_slope, fractions, Pickable, Picked};
 ghost use Rattle.slopes.specs.Passes.{Pivotable, Pivoted, Answers};
 
 // Rise over run, the run above zero.
-#[derive(Drop)]
+#[derive(Clone, Copy)]
 pub struct Slope {
     pub rise: i32,
     pub run: i32,
 }
 
 // The two words of a slope in scratch: the rise plus 2,000,000, and the run.
-#[derive(Drop)]
+#[derive(Clone, Copy)]
 pub struct Fraction {
     pub rise: u32,
     pub run: u32,

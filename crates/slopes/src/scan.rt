@@ -11,7 +11,7 @@ use super::Slope;
 use super::words::{chosen, copy, fraction_at, less, slope_at, slope_of, store};
 
 // How many slopes lie below another, and how many above.
-#[derive(Drop)]
+#[derive(Clone, Copy)]
 struct Counts {
     below: usize,
     above: usize,
@@ -117,7 +117,7 @@ fn front(w: &mut [u32], n: usize, m: usize)
 }
 
 // How many slopes are left, and which rank is sought among them.
-#[derive(Drop)]
+#[derive(Clone, Copy)]
 pub struct Rest {
     pub n: usize,
     pub r: usize,

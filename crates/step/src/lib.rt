@@ -15,14 +15,14 @@ use ends::together;
 use samples::streams::east;
 
 // What is said of a list: the count of its chain's corners, whose numbers stand at the front, or that a step's list has no bridge over its cut.
-#[derive(Drop)]
+#[derive(Clone, Copy)]
 pub enum Stepped {
     Chain(usize),
     NoBridge,
 }
 
 // A list split at the bridge from i to j, with how many numbers its left list and its right list have; or that it has no bridge over the cut.
-#[derive(Drop)]
+#[derive(Clone, Copy)]
 pub enum Parted {
     At {
         i: u32,
@@ -34,7 +34,7 @@ pub enum Parted {
 }
 
 // A list halved at a bridge: how many numbers its left list has, and how many its right list.
-#[derive(Drop)]
+#[derive(Clone, Copy)]
 pub struct Halves {
     pub left: usize,
     pub right: usize,

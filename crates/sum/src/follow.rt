@@ -16,14 +16,14 @@ use halves::corner;
 use samples::streams::Stream;
 
 // A stretch of a ring: from a place on, over so many sides.
-#[derive(Drop)]
+#[derive(Clone, Copy)]
 pub struct Stretch {
     pub from: usize,
     pub sides: usize,
 }
 
 // A place of each of two stretches.
-#[derive(Drop)]
+#[derive(Clone, Copy)]
 pub struct Places {
     pub first: usize,
     pub second: usize,

@@ -16,7 +16,7 @@ use samples::tests::too_short;
 use samples::words::clear;
 
 // The corners of the half that goes back that are not left out: lo to before hi.
-#[derive(Drop)]
+#[derive(Clone, Copy)]
 struct Part {
     lo: usize,
     hi: usize,

@@ -27,28 +27,28 @@ const NINE: u8 = 57;
 const MOST_LINES: usize = 512;
 
 // What digits give.
-#[derive(Drop)]
+#[derive(Clone, Copy)]
 enum Unsigned {
     Natural(u32),
     Bad,
 }
 
 // What a number, with or without a minus, gives.
-#[derive(Drop)]
+#[derive(Clone, Copy)]
 enum Number {
     Whole(i32),
     Bad,
 }
 
 // What a line gives, without its newline.
-#[derive(Drop)]
+#[derive(Clone, Copy)]
 enum Line {
     Sample { east: i32, north: i32 },
     Bad,
 }
 
 // What the line at a place of a text gives: its sample and where the next line starts.
-#[derive(Drop)]
+#[derive(Clone, Copy)]
 enum Found {
     Sample { east: i32, north: i32, next: usize },
     Bad,

@@ -6,14 +6,14 @@ ghost use Rattle.walk.specs.Ways.{way_place, Inside, Ways, Stands, Second, Drawn
 use crate::corners::{seen, west};
 
 // A way over so many corners of a ring: from a place on, or, for the lower side, from a place back.
-#[derive(Drop)]
+#[derive(Clone, Copy)]
 pub struct Way {
     pub from: usize,
     pub count: usize,
 }
 
 // A step of the walk: the place that is drawn, and how many corners of each way are drawn with it.
-#[derive(Drop)]
+#[derive(Clone, Copy)]
 pub struct Step {
     pub place: usize,
     pub first: usize,
