@@ -1,6 +1,6 @@
 -- The rounds: the list that a round keeps carries the bridge of the list that they began with.
 -- Assumes nothing.
-use Rattle.core.specs.Prelude.{◌≡◌, ℕ, ◌*◌, ◌<◌, ◌≤◌, true, List, map, length, take, ℤ}
+use Rattle.std.specs.Prelude.{◌≡◌, ℕ, ◌*◌, ◌<◌, ◌≤◌, true, List, map, length, take, ℤ}
 use mathlib.Core.Path.{refl, sym, ap, ap₂, ◌∙◌}
 use mathlib.Core.Option.{some, some-injective}
 use native.Mathlib.Omega.{arith}

@@ -1,7 +1,7 @@
 -- No two outcomes satisfy the promise of the bridge: two outcomes of which it holds, for the same arguments, are one. An outcome is the answer, and the
 -- content of the scratch afterwards.
 -- Assumes nothing.
-use Rattle.core.specs.Prelude.{◌≡◌, ℕ}
+use Rattle.std.specs.Prelude.{◌≡◌, ℕ}
 use mathlib.Core.Path.{refl, sym, ◌∙◌}
 use mathlib.Mathlib.Logic.Function.Defs.{LeftInverse-Injective}
 use contract.Lifetimes.{Lfts}

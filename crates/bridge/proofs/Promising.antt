@@ -1,6 +1,6 @@
 -- The promise of the bridge, from its tests and from what the rounds find.
 -- Assumes nothing.
-use Rattle.core.specs.Prelude.{◌≡◌, ℕ, zero, suc, ◌+◌, ◌*◌, ◌<◌, ◌≤◌, true, false, eqb, ◌⊎◌, List, [], map, length, take, replicate, ℤ}
+use Rattle.std.specs.Prelude.{◌≡◌, ℕ, zero, suc, ◌+◌, ◌*◌, ◌<◌, ◌≤◌, true, false, eqb, ◌⊎◌, List, [], map, length, take, replicate, ℤ}
 use mathlib.Core.Path.{sym, ap, ◌∙◌, subst, subst₂}
 use mathlib.Core.Option.{some, some-injective}
 use mathlib.Core.Logic.{inl, inr}

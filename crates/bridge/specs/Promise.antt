@@ -1,6 +1,6 @@
 -- What the rounds ask of a list, and the promise of the bridge: its answer, and the scratch that it leaves, as the rules have them.
 -- Assumes nothing.
-use Rattle.core.specs.Prelude.{◌≡◌, ℕ, ◌*◌, ◌≤◌, Bool, true, not, List, [], ◌∷◌, ◌++◌, map, length, take, ℤ}
+use Rattle.std.specs.Prelude.{◌≡◌, ℕ, ◌*◌, ◌≤◌, Bool, true, not, List, [], ◌∷◌, ◌++◌, map, length, take, ℤ}
 use Rattle.rules.specs.Streams.{streams}
 use Rattle.rules.specs.Bridge.{Bridge, ends, spans}
 use Rattle.rules.specs.Refusals.{Answer, refused, done, Test, test, scratch_after}

@@ -1,5 +1,5 @@
 // The bridge over a: rounds from a list until one answers.
-ghost use Rattle.core.specs.Prelude.{◌≡◌, ◌≤◌, length, take};
+ghost use Rattle.std.specs.Prelude.{◌≡◌, ◌≤◌, length, take};
 ghost use Rattle.rules.specs.Bridge.{ends};
 ghost use Rattle.laws_rounds.specs.Rounds.{Found};
 ghost use Rattle.laws_rounds.specs.WholeList.{numbers};

@@ -16,6 +16,8 @@ size_within m e h = div-le_of_le-mul (down e) (omega arith)
 
 pub taken_if : (x : Float) (s : Bool) (n : ℕ) → HasValue x s n 1 → n ≤ limit → part x ≡ whole (signed s n)
 unfolding part
+taken_if nan s n v h = elim v [ ]
+taken_if (inf _) s n v h = elim v [ ]
 taken_if (fin t m e) s n v h =
     let size : m * up e ≡ n * down e = sym (mul-one (m * up e)) ∙ v.1 in
     rw (size, le-ltb (limit * down e) (n * down e) (mul-le-mul_right (down e) h), mul-mod_left n (down e), mul-div_cancel n (down_pos e), v.0)

@@ -1,6 +1,6 @@
 -- The slope of two positions as the code's words.
 -- Assumes nothing.
-use Rattle.core.specs.Prelude.{◌≡◌, Bool, cond, ltb, ℤ, pos, ◌+ℤ◌, ◌-ℤ◌, neg_ℤ, nat_abs, ◌≤ℤ◌, ◌<ℤ◌}
+use Rattle.std.specs.Prelude.{◌≡◌, Bool, cond, ltb, ℤ, pos, ◌+ℤ◌, ◌-ℤ◌, neg_ℤ, nat_abs, ◌≤ℤ◌, ◌<ℤ◌}
 use mathlib.Core.Path.{refl, sym, ap, ap₂, ◌∙◌}
 use mathlib.Core.Option.{none, some}
 use borrow.Author.Tests.{lt-ltb}

@@ -1,6 +1,6 @@
 -- The numbers of positions and slopes as words: the bounds from which the sums and products of the code fit.
 -- Assumes nothing.
-use Rattle.core.specs.Prelude.{◌≡◌, ℕ, ◌^◌, ◌<◌, T, ltb, List, [], ◌∷◌, ℤ, pos, negsuc, nat_abs, ◌≤ℤ◌}
+use Rattle.std.specs.Prelude.{◌≡◌, ℕ, ◌^◌, ◌<◌, T, ltb, List, [], ◌∷◌, ℤ, pos, negsuc, nat_abs, ◌≤ℤ◌}
 use mathlib.Core.Path.{refl, ap, ap₂, subst⁻¹}
 use native.Mathlib.Nat.{lt_of_le_of_lt}
 use borrow.Author.Rules.{sfits_of}

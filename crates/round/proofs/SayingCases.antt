@@ -1,6 +1,6 @@
 -- What a round says in each of its three cases, from what its parts say.
 -- Assumes nothing.
-use Rattle.core.specs.Prelude.{◌≡◌, ℕ, ◌+◌, ◌/◌, ◌<◌, ◌≤◌, Bool, true, false, cond, ◌≢◌, List, [], ◌++◌, length, get_or, take, drop, ℤ, pos}
+use Rattle.std.specs.Prelude.{◌≡◌, ℕ, ◌+◌, ◌/◌, ◌<◌, ◌≤◌, Bool, true, false, cond, ◌≢◌, List, [], ◌++◌, length, get_or, take, drop, ℤ, pos}
 use mathlib.Core.Path.{refl, sym, ap, ap₂, ◌∙◌, subst₂}
 use native.Mathlib.Omega.{arith}
 use lib.Signed.{lt_z}

@@ -1,7 +1,7 @@
 -- Keys by which the tops are found, and the sample with the greatest key of the first i of a list, as a loop carries it: at the start, one sample more, at the
 -- end; samples passed by their heights.
 -- Assumes nothing.
-use Rattle.core.specs.Prelude.{◌≡◌, ℕ, zero, suc, ◌+◌, ◌*◌, ◌<◌, ◌≤◌, Bool, true, false, cond, ◌&&◌, ◌||◌, List, [], ◌∷◌, length, get_or, drop, ℤ, pos, ◌+ℤ◌, ◌*ℤ◌, neg_ℤ, ◌≤ℤ◌, ◌<ℤ◌}
+use Rattle.std.specs.Prelude.{◌≡◌, ℕ, zero, suc, ◌+◌, ◌*◌, ◌<◌, ◌≤◌, Bool, true, false, cond, ◌&&◌, ◌||◌, List, [], ◌∷◌, length, get_or, drop, ℤ, pos, ◌+ℤ◌, ◌*ℤ◌, neg_ℤ, ◌≤ℤ◌, ◌<ℤ◌}
 use mathlib.Core.Path.{refl, sym, ap, ap₂, ◌∙◌, subst, subst₂, fun_ext}
 use mathlib.Core.Logic.{⊎_elim}
 use mathlib.Core.List.{Memᴰ}

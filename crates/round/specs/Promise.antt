@@ -1,6 +1,6 @@
 -- The promise of the round: its answer, and what it leaves of all that is lent, as the rules have them.
 -- Assumes nothing.
-use Rattle.core.specs.Prelude.{◌≡◌, ℕ, ◌+◌, ◌*◌, not, ◌||◌, List, [], ◌∷◌, map, length, ℤ, nat_le, nat_lt}
+use Rattle.std.specs.Prelude.{◌≡◌, ℕ, ◌+◌, ◌*◌, not, ◌||◌, List, [], ◌∷◌, map, length, ℤ, nat_le, nat_lt}
 use Rattle.rules.specs.Lists.{some_of, first_place}
 use Rattle.rules.specs.Streams.{streams, sample, most}
 use Rattle.rules.specs.Bridge.{Bridge, ends, spans}

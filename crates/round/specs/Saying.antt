@@ -1,6 +1,6 @@
 -- What a round asks, and what it says: the bridge, or the list that it keeps, which lies at the front.
 -- Assumes nothing.
-use Rattle.core.specs.Prelude.{◌≡◌, ℕ, ◌*◌, ◌≤◌, List, length, take, drop, ℤ, slice_index}
+use Rattle.std.specs.Prelude.{◌≡◌, ℕ, ◌*◌, ◌≤◌, List, length, take, drop, ℤ, slice_index}
 use Rattle.rules.specs.Streams.{Stream}
 use Rattle.rules.specs.Bridge.{ends}
 use Rattle.rules.specs.Round as rules

@@ -1,6 +1,6 @@
 -- The slopes of the pairs of a list, as words behind it.
 -- Assumes nothing.
-use Rattle.core.specs.Prelude.{◌≡◌, ℕ, ◌*◌, ◌≤◌, cond, List, length, take, drop, ℤ, nat_lt}
+use Rattle.std.specs.Prelude.{◌≡◌, ℕ, ◌*◌, ◌≤◌, cond, List, length, take, drop, ℤ, nat_lt}
 use Rattle.std.proofs.Math.Option.{none, some}
 use Rattle.rules.specs.Streams.{Stream}
 use Rattle.rules.specs.Round.{pair, paired, slope_of, slopes}

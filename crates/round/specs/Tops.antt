@@ -1,6 +1,6 @@
 -- The tops of a list: the keys by which they are found, what the code asks and what its struct says.
 -- Assumes nothing.
-use Rattle.core.specs.Prelude.{◌≡◌, ℕ, ◌+◌, ◌<◌, ◌≤◌, Bool, cond, List, length, drop, ℤ, pos, ◌+ℤ◌, ◌*ℤ◌, neg_ℤ, int_le, int_lt, nat_lt, slice_index}
+use Rattle.std.specs.Prelude.{◌≡◌, ℕ, ◌+◌, ◌<◌, ◌≤◌, Bool, cond, List, length, drop, ℤ, pos, ◌+ℤ◌, ◌*ℤ◌, neg_ℤ, int_le, int_lt, nat_lt, slice_index}
 use Rattle.whole.specs.Fits.{Within}
 use Rattle.rules.specs.Lists.{first_place, best_from}
 use Rattle.rules.specs.Streams.{Stream}

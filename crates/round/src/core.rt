@@ -1,5 +1,5 @@
 // A round over a list of sample numbers that lies at the front of a lent part of scratch, with free room behind it.
-ghost use Rattle.core.specs.Prelude.{◌≡◌, ◌<◌, length, if◌then◌else◌, int_lt};
+ghost use Rattle.std.specs.Prelude.{◌≡◌, ◌<◌, length, if◌then◌else◌, int_lt};
 ghost use Rattle.slopes.specs.Fractions.{as_slope};
 ghost use Rattle.samples.specs.Positions.{at, east_of};
 ghost use Rattle.round.specs.Saying.{RoundAsks, RoundSays, FinishAsks, FinishSays};

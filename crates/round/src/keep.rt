@@ -1,5 +1,5 @@
 // What the pairs of a list keep, once it is known where the tops lie.
-ghost use Rattle.core.specs.Prelude.{◌≡◌, ◌<◌};
+ghost use Rattle.std.specs.Prelude.{◌≡◌, ◌<◌};
 ghost use Rattle.rules.specs.Round.{pair, keeps};
 ghost use Rattle.slopes.specs.Fractions.{as_slope};
 ghost use Rattle.slopes.specs.Fractions as fractions;

@@ -4,7 +4,7 @@ mod keep;
 mod pairs;
 mod tops;
 
-ghost use Rattle.core.specs.Prelude.{◌≡◌, ◌≤◌, length};
+ghost use Rattle.std.specs.Prelude.{◌≡◌, ◌≤◌, length};
 ghost use Rattle.samples.specs.Tests.{tested_of};
 ghost use Rattle.round.specs.Saying.{kept_count};
 ghost use Rattle.round.specs.Promise.{round_tests, Answered, RoundPromise};

@@ -1,5 +1,5 @@
 // The slopes of the pairs of a list, written behind it.
-ghost use Rattle.core.specs.Prelude.{◌<◌, length};
+ghost use Rattle.std.specs.Prelude.{◌<◌, length};
 ghost use Rattle.samples.specs.Positions.{Sampled, Near, at};
 ghost use Rattle.samples.specs.HeldStream.{stream_of};
 ghost use Rattle.round.specs.Slopes.{PairSlope, SlopesAsk, Sloped};

@@ -1,6 +1,6 @@
 // The tops of a list: the samples with greatest north minus K times east. The one furthest west and the one furthest east are found by keys, scaled heights
 // beside which the east counts only where heights are equal. In a long list most samples are below the tops so far: those are passed by their heights alone.
-ghost use Rattle.core.specs.Prelude.{◌≡◌, ◌<◌, ◌≤◌, length};
+ghost use Rattle.std.specs.Prelude.{◌≡◌, ◌<◌, ◌≤◌, length};
 ghost use Rattle.rules.specs.Lists.{first_place};
 ghost use Rattle.rules.specs.Round.{height};
 ghost use Rattle.slopes.specs.Fractions.{as_slope};

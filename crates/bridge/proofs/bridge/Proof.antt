@@ -1,5 +1,5 @@
 -- `bridge::bridge` meets its promise: the tests refuse, or the rounds from all the numbers report the bridge. Assumes nothing.
-use Rattle.core.specs.Prelude.{◌≡◌, ℕ, false, List, length, ℤ}
+use Rattle.std.specs.Prelude.{◌≡◌, ℕ, false, List, length, ℤ}
 use mathlib.Core.Path.{sym, ap, ◌∙◌, subst, subst₂}
 use native.Mathlib.Omega.{arith}
 use borrow.Author.Rules.{rules}

@@ -1,5 +1,5 @@
 -- `bridge::bridge_of` meets its contract: every list that a round keeps carries the bridge, and is shorter. Assumes nothing.
-use Rattle.core.specs.Prelude.{◌≡◌, ℕ, true, List, map, length, take, ℤ}
+use Rattle.std.specs.Prelude.{◌≡◌, ℕ, true, List, map, length, take, ℤ}
 use mathlib.Core.Path.{◌∙◌, subst, subst⁻¹}
 use native.Mathlib.Omega.{arith}
 use borrow.Author.Rules.{rules}

@@ -1,5 +1,5 @@
 -- `bridge::tested` meets its contract: the tests of samples, then the test for 6. Assumes nothing.
-use Rattle.core.specs.Prelude.{◌≡◌, Bool, cond, not, eqb, List, [], ◌∷◌, length, ℤ}
+use Rattle.std.specs.Prelude.{◌≡◌, Bool, cond, not, eqb, List, [], ◌∷◌, length, ℤ}
 use mathlib.Core.Path.{sym, ap, ◌∙◌}
 use borrow.Author.Rules.{rules}
 use borrow.Author.Tests.{eqb-true, not-false}

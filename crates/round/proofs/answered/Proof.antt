@@ -1,6 +1,6 @@
 -- `round::answered` meets its contract. Assumes nothing.
 use mathlib.Core.Path.{sym, subst}
-use Rattle.core.specs.Prelude.{ℕ, ◌≤◌, length}
+use Rattle.std.specs.Prelude.{ℕ, ◌≤◌, length}
 use native.Mathlib.Omega.{arith}
 use borrow.Author.Rules.{rules}
 use lib.Seq.{length-take-le}

@@ -1,5 +1,5 @@
 -- `round::round` meets its promise: the tests refuse, or the round over the list in scratch says what the rules say. Assumes nothing.
-use Rattle.core.specs.Prelude.{◌≡◌, false, List, length, ℤ}
+use Rattle.std.specs.Prelude.{◌≡◌, false, List, length, ℤ}
 use mathlib.Core.Path.{sym, ap, ◌∙◌, subst}
 use native.Mathlib.Omega.{arith}
 use borrow.Author.Rules.{rules}

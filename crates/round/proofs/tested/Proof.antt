@@ -1,5 +1,5 @@
 -- `round::tested` meets its contract: each return is the rules' tests in the order in which the code makes them. Assumes nothing.
-use Rattle.core.specs.Prelude.{◌≡◌, ℕ, ◌+◌, ◌*◌, ◌≤◌, Bool, false, not, ◌||◌, ltb, leb, List, [], ◌∷◌, map, length, ℤ}
+use Rattle.std.specs.Prelude.{◌≡◌, ℕ, ◌+◌, ◌*◌, ◌≤◌, Bool, false, not, ◌||◌, ltb, leb, List, [], ◌∷◌, map, length, ℤ}
 use mathlib.Core.Path.{sym, ap, ap₂, ◌∙◌}
 use borrow.Author.Rules.{rules}
 use borrow.Author.Tests.{lt-ltb, le-ltb, eq-eqb, ne_eqb}

@@ -1,5 +1,5 @@
 -- `round::core::two` meets its contract. Assumes nothing.
-use Rattle.core.specs.Prelude.{◌≡◌}
+use Rattle.std.specs.Prelude.{◌≡◌}
 use mathlib.Core.Path.{sym, ap₂, ◌∙◌}
 use borrow.Author.Rules.{rules, sfits_of}
 use lib.Signed.{lt_z}

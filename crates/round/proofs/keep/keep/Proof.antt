@@ -1,6 +1,6 @@
 -- `round::keep::keep` meets its contract: the loop keeps at the front what the pairs passed keep. Assumes nothing.
 use mathlib.Core.Path.{sym, subst}
-use Rattle.core.specs.Prelude.{ℕ, ◌+◌, ◌-◌, ◌<◌, length}
+use Rattle.std.specs.Prelude.{ℕ, ◌+◌, ◌-◌, ◌<◌, length}
 use native.Mathlib.Omega.{arith}
 use lib.ListN.{length-set}
 use Rattle.slopes.specs.Fractions.{as_slope}

@@ -1,5 +1,5 @@
 -- `round::keep::of_pair` meets its contract: what the signs of the way and of the excess leave of the pair. Assumes nothing.
-use Rattle.core.specs.Prelude.{◌≡◌, ℕ, Bool, ◌&&◌, ◌||◌, eqb, [], ◌∷◌, ℤ, pos}
+use Rattle.std.specs.Prelude.{◌≡◌, ℕ, Bool, ◌&&◌, ◌||◌, eqb, [], ◌∷◌, ℤ, pos}
 use mathlib.Core.Path.{sym, ap, ap₂, ◌∙◌, subst, subst₂}
 use mathlib.Core.Logic.{⊎_elim}
 use borrow.Author.Rules.{rules}

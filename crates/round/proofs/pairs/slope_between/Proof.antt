@@ -1,6 +1,6 @@
 -- `round::pairs::slope_between` meets its contract: the differences fit, and with the rise moved up by 2,000,000 none of the words is below 0.
 -- Assumes nothing.
-use Rattle.core.specs.Prelude.{◌≡◌, Bool, true, false, ℤ, pos, ◌-ℤ◌, neg_ℤ, ◌≤ℤ◌, ◌<ℤ◌}
+use Rattle.std.specs.Prelude.{◌≡◌, Bool, true, false, ℤ, pos, ◌-ℤ◌, neg_ℤ, ◌≤ℤ◌, ◌<ℤ◌}
 use mathlib.Core.Path.{sym, ◌∙◌, subst₂}
 use Rattle.rules.specs.Streams.{Stream}
 use mathlib.Core.Logic.{⊎_elim}

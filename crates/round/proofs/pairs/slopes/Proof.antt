@@ -1,5 +1,5 @@
 -- `round::pairs::slopes` meets its contract: the loop keeps the slopes of the pairs passed behind the list. Assumes nothing.
-use Rattle.core.specs.Prelude.{ℕ, ◌+◌, ◌-◌, ◌<◌, length, get_or}
+use Rattle.std.specs.Prelude.{ℕ, ◌+◌, ◌-◌, ◌<◌, length, get_or}
 use mathlib.Core.Path.{sym, subst}
 use native.Mathlib.Omega.{arith}
 use lib.ListN.{length-set}

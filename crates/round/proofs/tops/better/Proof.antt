@@ -1,5 +1,5 @@
 -- `round::tops::better` meets its contract: the test of the words is that of the keys. Assumes nothing.
-use Rattle.core.specs.Prelude.{◌≡◌, Bool}
+use Rattle.std.specs.Prelude.{◌≡◌, Bool}
 use mathlib.Core.Path.{sym, ap₂, ◌∙◌}
 use lib.Signed.{lt_z}
 use mir.Syntax.{w64}

@@ -1,6 +1,6 @@
 -- `round::tops::keys_of` meets its contract: the sums fit 64 bits. Assumes nothing.
 use mathlib.Core.Path.{sym, ap, ◌∙◌, subst}
-use Rattle.core.specs.Prelude.{[], ◌∷◌, neg_ℤ}
+use Rattle.std.specs.Prelude.{[], ◌∷◌, neg_ℤ}
 use borrow.Author.Rules.{rules}
 use mir.Syntax.{w64}
 use Rattle.whole.specs.Solver.{var, ◌⊕◌, ◌⊖◌}

@@ -1,5 +1,5 @@
 -- `round::tops::of_list` meets its contract: the loop carries the samples with the greatest keys of those passed. Assumes nothing.
-use Rattle.core.specs.Prelude.{◌≡◌, ℕ, ◌+◌, ◌-◌, ltb, List, length, get_or, ℤ, neg_ℤ}
+use Rattle.std.specs.Prelude.{◌≡◌, ℕ, ◌+◌, ◌-◌, ltb, List, length, get_or, ℤ, neg_ℤ}
 use mathlib.Core.Path.{sym, ◌∙◌, subst}
 use native.Mathlib.Omega.{arith}
 use borrow.Author.Rules.{rules}

@@ -1,5 +1,5 @@
 -- `round::tops::reach` meets its contract: the loop has passed the samples that do not reach the top. Assumes nothing.
-use Rattle.core.specs.Prelude.{◌≡◌, ℕ, ◌-◌, Bool, List, length, get_or}
+use Rattle.std.specs.Prelude.{◌≡◌, ℕ, ◌-◌, Bool, List, length, get_or}
 use mathlib.Core.Path.{sym, ap, ap₂, ◌∙◌, subst}
 use native.Mathlib.Omega.{arith}
 use borrow.Author.Rules.{rules}
