@@ -1,5 +1,6 @@
 // The ring hand: a place on a ring of so many corners, by value. Each step of the hand answers the present edge as two places and hands back the
 // hand one place on.
+#![tactic(auto)]
 
 ghost use Rattle.std.specs.Prelude.{◌≡◌};
 ghost use Rattle.rules.specs.Entries.{hand_answer, hand_step_answer, hand_after};
@@ -36,6 +37,7 @@ pub struct Step {
 
 impl Hand {
     // A hand for m corners, at place 0.
+    #[tactic(auto, unfolding(rules::specs::Entries::hand_answer))]
     pub fn made_for(m: usize) -> Made
         ensures { made_as result ≡ hand_answer m }
     {
@@ -55,6 +57,7 @@ impl Hand {
     }
 
     // The present edge, from this place to the next, and the hand one place on: place 0 after the last.
+    #[tactic(auto, unfolding(rules::specs::Entries::hand_step_answer))]
     pub fn step(self) -> Step
         ensures edge { edge_as result.edge ≡ hand_step_answer (hand_at self) }
         ensures next { hand_at result.next ≡ hand_after (hand_step_answer (hand_at self)) (hand_at self) }
