@@ -1,4 +1,6 @@
 // The chains of samples. Both chains are made in scratch, by chain steps; outputs are written when the whole result is known and fits.
+#![tactic(auto)]
+
 pub mod sides;
 mod write;
 
