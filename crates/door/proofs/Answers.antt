@@ -19,6 +19,12 @@ pub not_done : (count : ℕ) → IsRefusal (Done count) → ⊥
 not_done count (inl e) = omega arith
 not_done count (inr e) = omega arith
 
+-- no answer of the first variant
+pub refused_if : (r : ReadingsAnswer) → ((count : ℕ) → r ≡ Done count → ⊥) → IsRefusal r
+refused_if (Done count) h = absurd (h count refl)
+refused_if (Refused number place) h = inl refl
+refused_if (RefusedFloat number place x) h = inr refl
+
 pub refusal_first : (r s : ReadingsAnswer) → IsRefusal r → r ≡ first_refusal r s
 refusal_first (Done count) s k = absurd (not_done count k)
 refusal_first (Refused number place) s k = refl

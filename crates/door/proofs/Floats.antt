@@ -65,6 +65,8 @@ far_off a d p h =
 
 pub truncates : (x : Float) → Within x → T (le (fin true 1 (pos 63)) x) × T (lt x (fin false 1 (pos 63)))
 unfolding le lt
+truncates nan h = elim h [ ]
+truncates (inf _) h = elim h [ ]
 truncates (fin true m e) h = let f = far_off (m * up e) (down e) (down_pos e) h in (rw f.0 tt, rw f.1 tt)
 truncates (fin false m e) h = let f = far_off (m * up e) (down e) (down_pos e) h in (rw f.2 tt, rw f.0 tt)
 
@@ -87,6 +89,8 @@ signed_in_float true zero h = tt
 signed_in_float true (suc n) h = lt→ltb n (2 ^ 53) (omega arith)
 
 pub whole_part_fits : (x : Float) → Within x → T (in_float binary64 (to_signed 63 x))
+whole_part_fits nan h = elim h [ ]
+whole_part_fits (inf _) h = elim h [ ]
 whole_part_fits (fin s m e) h = rw (whole_part s m e h) (signed_in_float s (m * up e / down e) (size_within m e h))
 
 -- ---- fraction: whether a float equals its own whole part
@@ -114,6 +118,8 @@ no_size b d h q c z e =
 equals_whole_part : (y : Float) (t s : Bool) (m : ℕ) (e : ℤ) (q : ℕ) → m * up e / down e ≡ q → HasValue y t q 1 → (t ≡ s) ⊎ (q ≡ 0) →
     eq y (fin s m e) ≡ eqb (m * up e % down e) 0
 unfolding eq
+equals_whole_part nan t s m e q is v o = elim v [ ]
+equals_whole_part (inf _) t s m e q is v o = elim v [ ]
 equals_whole_part (fin u k g) t s m e q is v o =
     let a = m * up e in
     let b = k * up g in
@@ -142,6 +148,8 @@ equals_truncated s m e h = rw (whole_part s m e h) (equals-signed s (m * up e / 
 
 pub fraction_found : (x : Float) → Within x → ne (of_int binary64 (to_signed 63 x)) x ≡ true → no_float 14 x ≡ part x
 unfolding part ne
+fraction_found nan h t = elim h [ ]
+fraction_found (inf _) h t = elim h [ ]
 fraction_found (fin s m e) h t =
     let r = sym (equals_truncated s m e h) ∙ not-true _ t in
     rw (le-ltb (limit * down e) (m * up e) h, r)
@@ -154,6 +162,8 @@ NoFraction (fin s m e) = eqb (m * up e % down e) 0 ≡ true
 
 pub no_fraction : (x : Float) → Within x → ne (of_int binary64 (to_signed 63 x)) x ≡ false → NoFraction x
 unfolding ne
+no_fraction nan h t = elim h [ ]
+no_fraction (inf _) h t = elim h [ ]
 no_fraction (fin s m e) h t = sym (equals_truncated s m e h) ∙ not-false _ t
 
 -- ---- zero, with either sign, and the cast
@@ -172,6 +182,8 @@ no_sign false = refl
 
 pub zero_taken : (x : Float) → Within x → NoFraction x → eq x zero_float ≡ true → whole (pos 0) ≡ part x
 unfolding part
+zero_taken nan h w t = elim h [ ]
+zero_taken (inf _) h w t = elim h [ ]
 zero_taken (fin s m e) h w t =
     let z = eqb-true (m * up e) 0 (sym (equals-zero s m e) ∙ t) in
     rw (le-ltb (limit * down e) (m * up e) h, w, z, zero-div, no_sign)
@@ -182,6 +194,8 @@ not-zero s m e t =
 
 pub cast_fits : (x : Float) → Within x → NoFraction x → eq x zero_float ≡ false → T (in_signed binary64 31 x)
 unfolding in_signed wholeᶠ
+cast_fits nan h w t = elim h [ ]
+cast_fits (inf _) h w t = elim h [ ]
 cast_fits (fin s m e) h w t =
     let q = m * up e / down e in
     let l : q ≤ limit = size_within m e h in
@@ -193,5 +207,7 @@ cast_fits (fin s m e) h w t =
 
 pub cast_taken : (x : Float) → Within x → NoFraction x → T (in_signed binary64 31 x) → whole (to_signed 31 x) ≡ part x
 unfolding part
+cast_taken nan h w t = elim h [ ]
+cast_taken (inf _) h w t = elim h [ ]
 cast_taken (fin true m e) h w t = rw (to_signed_cut binary64 31 true m e t, le-ltb (limit * down e) (m * up e) h, w)
 cast_taken (fin false m e) h w t = rw (to_signed_cut binary64 31 false m e t, le-ltb (limit * down e) (m * up e) h, w)

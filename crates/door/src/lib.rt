@@ -1,4 +1,5 @@
 // The float door: readings that come as 64-bit floats, taken as parts where their values are whole numbers within the limit.
+#![tactic(auto)]
 
 ghost use Rattle.std.specs.Prelude.{◌≡◌, ◌<◌, ◌≤◌, length, slice_index_or};
 ghost use Rattle.std.specs.Float.{nan};
