@@ -1,4 +1,5 @@
 // A ring by its two halves: where they stand among its corners, as the easts tell it, and the corner at a place of either.
+#![tactic(auto)]
 
 ghost use Rattle.std.specs.Prelude.{◌≡◌, ◌≤◌, ◌<◌, length};
 ghost use Rattle.std.specs.Int.Signed.{lt_z};
