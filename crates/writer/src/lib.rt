@@ -1,4 +1,5 @@
 // The record writer: the record of a ring that comes as two lists, in a version and a sense, if it is an envelope.
+#![tactic(auto)]
 
 ghost use Rattle.std.specs.Prelude.{true, ◌&&◌, ◌||◌, ◌++◌, ◌≡◌, ◌+◌, ◌-◌, ◌^◌, ◌≤◌, ◌<◌, ltb, eqb, length};
 ghost use Rattle.rules.specs.Streams.{streams};
