@@ -2,6 +2,8 @@
 // never divided. A step parts the slopes below a pivot from those above it and goes on with the side that has the rank; correctness needs only that the pivot is
 // one of the slopes. Of twelve slopes or fewer the least is taken out until it has the rank. Of 400 or more, first those well below the rank and well above it are left
 // out.
+#![tactic(auto)]
+
 mod bracket;
 mod gather;
 mod scan;

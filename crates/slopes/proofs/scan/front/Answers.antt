@@ -1,0 +1,11 @@
+use Rattle.std.proofs.Common.{ℕ, ◌+◌, List, sym, subst, arith}
+use Rattle.slopes.specs.PassLaws.{Fronting, fronting_more}
+use Rattle.slopes.proofs.scan.front.Goals as goal
+
+pub loop-i-preserved : goal.loop-i-preserved
+loop-i-preserved c =
+    let long = c.loop-i.invariant.1.long in (
+      omega arith,
+      subst (λ (v : List ℕ). Fronting c.args.n c.args.w.now v (c.loop-i.i + 1)) (sym c.copy.ensures)
+          (fronting_more c.loop-i.invariant.1 (omega arith) (omega arith)),
+    )
