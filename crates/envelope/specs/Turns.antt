@@ -7,7 +7,6 @@ use Rattle.whole.specs.Fits.{Within}
 use Rattle.rules.specs.Lists.{first_place, written}
 use Rattle.rules.specs.Streams.{Stream, stream, streams, sample, limit, same, turned}
 use Rattle.rules.specs.Chain.{leftmost}
-use Rattle.rules.specs.Ring.{ring}
 use Rattle.rules.specs.Use.{envelope, turn_about}
 use Rattle.rules.specs.Refusals.{Answer, refused, done, output_after}
 use Rattle.rules.specs.Entries.{easts, norths, counted, turn_answer}
