@@ -1,4 +1,5 @@
 // The record reader: the going-to ring that a record's bytes mean, if the corners stored are an envelope.
+#![tactic(auto)]
 
 ghost use Rattle.std.specs.Prelude.{◌≡◌, true, ◌+◌, ◌≤◌, ◌<◌, length};
 ghost use Rattle.rules.specs.Lists.{first_place, written};
