@@ -1,5 +1,7 @@
 // The rank picker. The numbers are carried as keys at the front of a lent part of scratch, with free room behind them. The picker splits them
 // at a pivot and goes on with one side; the pivot finder picks the middle of the middles of groups of five, which is known as the median of medians.
+#![tactic(auto)]
+
 mod five;
 pub mod keys;
 mod scan;
