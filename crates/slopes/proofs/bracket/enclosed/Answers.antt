@@ -19,4 +19,4 @@ returns c =
     let h = c.requires in
     let a = c.not_above-k in
     let b = c.not_below-a in
-    bracketed h.0 h.1 b.auto.w b.ensures h.2 a.auto.w a.ensures c.if-r-below.false c.if-k-t.false c.if-n-k.false
+    bracketed h.0 h.1 b.auto.w b.ensures h.2 a.auto.w a.ensures (omega arith) (omega arith) (omega arith)
