@@ -1,4 +1,6 @@
 // The bridge over a: rounds from a list until one answers.
+#![tactic(auto)]
+
 ghost use Rattle.std.specs.Prelude.{◌≡◌, ◌≤◌, length, take};
 ghost use Rattle.rules.specs.Bridge.{ends};
 ghost use Rattle.laws_rounds.specs.Rounds.{Found};
