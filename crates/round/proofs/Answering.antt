@@ -19,8 +19,8 @@ use Rattle.samples.specs.declared.tests.Tested.{Tested}
 use Rattle.samples.specs.declared.tests.Tested.TheVariants as tests
 use Rattle.round.specs.declared.RoundAnswer.{RoundAnswer}
 use Rattle.round.specs.declared.RoundAnswer.TheVariants as answer
-use Rattle.round.specs.declared.core.Said.{Said}
-use Rattle.round.specs.declared.core.Said.TheVariants as said
+use Rattle.round.specs.declared.turn.Said.{Said}
+use Rattle.round.specs.declared.turn.Said.TheVariants as said
 use Rattle.round.specs.Saying.{said_as, RoundAsks, RoundSays}
 use Rattle.round.specs.Promise.{telling, answer_as, answer_of, round_tests, Answered, RoundPromise}
 

@@ -11,8 +11,8 @@ use Rattle.rules.specs.Round as rules
 use Rattle.laws_ranks.specs.Ranks.{HasRank}
 use Rattle.slopes.specs.Fractions.{fractions, Near, Picked}
 use Rattle.slopes.specs.ScratchLaws.{length-fractions}
-use Rattle.round.specs.declared.core.Said.{Said}
-use Rattle.round.specs.declared.core.Said.TheVariants.{Found, Kept}
+use Rattle.round.specs.declared.turn.Said.{Said}
+use Rattle.round.specs.declared.turn.Said.TheVariants.{Found, Kept}
 use Rattle.round.specs.Slopes.{Sloped}
 use Rattle.round.specs.Keeping.{towards, KeptFront}
 use Rattle.round.specs.Saying.{said_as, kept_count, RoundSays, FinishSays}

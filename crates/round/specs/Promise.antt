@@ -9,7 +9,7 @@ use Rattle.rules.specs.Refusals.{Answer, refused, done, Test, test, unless, leng
 use Rattle.rules.specs.Entries.{kept_list, round_answer}
 use Rattle.round.specs.declared.RoundAnswer.{RoundAnswer}
 use Rattle.round.specs.declared.RoundAnswer.TheVariants.{Found, Kept, Refused}
-use Rattle.round.specs.declared.core.Said.{Said}
+use Rattle.round.specs.declared.turn.Said.{Said}
 use Rattle.round.specs.Saying.{said_as}
 
 -- what an answer tells: the bridge, or how many numbers are kept, which lie in the output

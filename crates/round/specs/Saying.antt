@@ -6,8 +6,8 @@ use Rattle.rules.specs.Bridge.{ends}
 use Rattle.rules.specs.Round as rules
 use Rattle.slopes.specs.Fractions.{Near}
 use Rattle.samples.specs.Positions.{Sampled, Listed}
-use Rattle.round.specs.declared.core.Said.{Said}
-use Rattle.round.specs.declared.core.Said.TheVariants.{Found, Kept}
+use Rattle.round.specs.declared.turn.Said.{Said}
+use Rattle.round.specs.declared.turn.Said.TheVariants.{Found, Kept}
 
 -- the rules' word for what is said, where w is left
 abbrev pub said_as : Said → List ℕ → rules.Said ℕ

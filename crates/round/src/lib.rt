@@ -1,15 +1,17 @@
 // A round of the bridge finder.
-pub mod core;
+#![tactic(auto)]
+
 mod keep;
 mod pairs;
 mod tops;
+pub mod turn;
 
 ghost use Rattle.std.specs.Prelude.{◌≡◌, ◌≤◌, length};
 ghost use Rattle.samples.specs.Tests.{tested_of};
 ghost use Rattle.round.specs.Saying.{kept_count};
 ghost use Rattle.round.specs.Promise.{round_tests, Answered, RoundPromise};
 
-use self::core::{Said, round_of};
+use self::turn::{Said, round_of};
 use samples::tests::{MOST, Tested, first_beyond, first_unlisted, list_spans};
 use samples::words::{clear, write};
 
