@@ -1,5 +1,6 @@
 // A ring closed from two chains: the upper chain, then the lower chain right to left, leaving out the lower right end if it equals the upper right end and the
 // lower left end if it equals the upper left end. Corners come from two lists, at one run of places; the second list may be empty.
+#![tactic(auto)]
 
 ghost use Rattle.rules.specs.Ring.{closed};
 ghost use Rattle.laws_stack.specs.Places.{listed};
