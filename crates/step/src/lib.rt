@@ -1,6 +1,8 @@
 // The chain step, over a list of sample numbers at the front of a lent part of scratch with free room behind it. A list from its left end to its right end
 // is cut at a middle of its easts, and the bridge over the cut leaves a left list and a right list; their chains, one after the other, are its chain. This is
 // Kirkpatrick and Seidel's marriage before conquest: the bridge is found before the two sides are looked at, so what lies under it is never looked at again.
+#![tactic(auto)]
+
 pub mod ends;
 pub mod lists;
 pub mod moves;
