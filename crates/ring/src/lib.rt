@@ -1,5 +1,7 @@
 // The ring of samples: both chains, made in scratch by chain steps, closed and written.
 
+#![tactic(auto)]
+
 ghost use Rattle.rules.specs.Entries.{ring_answer};
 ghost use Rattle.closing.specs.RingPromise.{Outcome};
 
