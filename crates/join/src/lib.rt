@@ -1,5 +1,6 @@
 // Join: the ring of both rings' positions, in time linear in the corners: the upper chain, walked over the upper halves of both rings, the lower chain,
 // walked over the lower halves, closed.
+#![tactic(auto)]
 
 ghost use Rattle.std.specs.Prelude.{◌+◌, ◌≤◌, length};
 ghost use Rattle.rules.specs.Streams.{streams};
