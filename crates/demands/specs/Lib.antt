@@ -11,6 +11,6 @@ pub mod RingTurned
 pub mod SamplesTurned
 pub mod Strongest
 pub mod Covered
-pub mod Contracts
+pub mod EntryContracts
 pub mod AnswerCases
 pub mod Soundings
