@@ -85,20 +85,20 @@ pub is_envelope-is-requires : goal.is_envelope-is-requires
 is_envelope-is-requires c = let a = c.args in (good a.version a.sense a.east.now a.north.now a.out.now c.in-Passed.ensures).0
 
 pub returns-then-not-is-clause-answer : goal.returns-then-not-is-clause-answer
-returns-then-not-is-clause-answer c = let a = c.args in rw (nine a.version a.sense a.east.now a.north.now a.out.now c.in-Passed.ensures (sym c.if-not-is.ensures)) refl
+returns-then-not-is-clause-answer c = let a = c.args in rw (nine a.version a.sense a.east.now a.north.now a.out.now c.in-Passed.ensures (cc)) refl
 
 pub returns-then-out-size-clause-answer : goal.returns-then-out-size-clause-answer
 returns-then-out-size-clause-answer c =
     let a = c.args in
-    rw (five a.version a.sense a.east.now a.north.now a.out.now c.in-Passed.ensures (sym c.if-not-is.ensures) (omega (arith, c.sense_size.ensures, c.if-out-size.true))) refl
+    rw (five a.version a.sense a.east.now a.north.now a.out.now c.in-Passed.ensures (cc) (omega (arith, c.sense_size.ensures, c.if-out-size.true))) refl
 
 pub returns-then-not-is-clause-out : goal.returns-then-not-is-clause-out
-returns-then-not-is-clause-out c = let a = c.args in rw (nine a.version a.sense a.east.now a.north.now a.out.now c.in-Passed.ensures (sym c.if-not-is.ensures)) refl
+returns-then-not-is-clause-out c = let a = c.args in rw (nine a.version a.sense a.east.now a.north.now a.out.now c.in-Passed.ensures (cc)) refl
 
 pub returns-then-out-size-clause-out : goal.returns-then-out-size-clause-out
 returns-then-out-size-clause-out c =
     let a = c.args in
-    rw (five a.version a.sense a.east.now a.north.now a.out.now c.in-Passed.ensures (sym c.if-not-is.ensures) (omega (arith, c.sense_size.ensures, c.if-out-size.true))) refl
+    rw (five a.version a.sense a.east.now a.north.now a.out.now c.in-Passed.ensures (cc) (omega (arith, c.sense_size.ensures, c.if-out-size.true))) refl
 
 pub put_corners-requires-clause-sampled : goal.put_corners-requires-clause-sampled
 put_corners-requires-clause-sampled c = let a = c.args in ((good a.version a.sense a.east.now a.north.now a.out.now c.in-Passed.ensures).0, c.first_corner-first.ensures)
@@ -108,7 +108,7 @@ unfolding in_sense
 put_corners-requires-clause-north_in_bounds c =
     let a = c.args in
     let p = c.in-Passed.ensures in
-    let is = sym c.if-not-is.ensures in
+    let is : envelope (streams a.east.now a.north.now) ≡ true = cc in
     let room : head_size + size_of_sense a.version + corner_size * length a.east.now ≤ length a.out.now = omega (arith, c.sense_size.ensures, c.if-out-size.false) in
     let size : 5 + c.sense_size.result + 8 * length a.east.now - head_size ≡ size_of_sense a.version + corner_size * length a.east.now = omega (arith, c.sense_size.ensures) in
     let head = rw size at c.put_head-from.ensures in
@@ -118,7 +118,7 @@ pub returns-clause-answer : goal.returns-clause-answer
 returns-clause-answer c =
     let a = c.args in
     let p = c.in-Passed.ensures in
-    let is = sym c.if-not-is.ensures in
+    let is : envelope (streams a.east.now a.north.now) ≡ true = cc in
     let room : head_size + size_of_sense a.version + corner_size * length a.east.now ≤ length a.out.now = omega (arith, c.sense_size.ensures, c.if-out-size.false) in
     let size = ap (λ (n : ℕ). head_size + n + corner_size * length a.east.now) c.sense_size.ensures ∙ sym (size a.version a.sense a.east.now a.north.now a.out.now p is) in
     rw (all a.version a.sense a.east.now a.north.now a.out.now p is room) (ap done size)
@@ -128,7 +128,7 @@ unfolding in_sense
 returns-clause-out c =
     let a = c.args in
     let p = c.in-Passed.ensures in
-    let is = sym c.if-not-is.ensures in
+    let is : envelope (streams a.east.now a.north.now) ≡ true = cc in
     let room : head_size + size_of_sense a.version + corner_size * length a.east.now ≤ length a.out.now = omega (arith, c.sense_size.ensures, c.if-out-size.false) in
     let size : 5 + c.sense_size.result + 8 * length a.east.now - head_size ≡ size_of_sense a.version + corner_size * length a.east.now = omega (arith, c.sense_size.ensures) in
     let head = rw size at c.put_head-from.ensures in
