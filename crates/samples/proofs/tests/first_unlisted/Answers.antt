@@ -7,12 +7,12 @@ use Rattle.samples.proofs.tests.first_unlisted.Goals as goal
 pub returns-then-count-list : goal.returns-then-count-list
 returns-then-count-list c =
     let a = c.args in
-    passed_here (λ x. leb a.count x) 0 a.list.now c.loop-i.i (omega arith) (le-leb a.count (get_or a.list.now c.loop-i.i 0) c.if-count-list.true) c.loop-i.invariant
+    passed_here (λ x. leb a.count x) 0 a.list.now c.loop-i.i (omega arith) (le-leb a.count (get_or a.list.now c.loop-i.i 0) (omega arith)) c.loop-i.invariant
 
 pub loop-i-preserved : goal.loop-i-preserved
 loop-i-preserved c =
     let a = c.args in
-    passed_more (λ x. leb a.count x) 0 a.list.now c.loop-i.i (omega arith) (lt-leb a.count (get_or a.list.now c.loop-i.i 0) c.if-count-list.false) c.loop-i.invariant
+    passed_more (λ x. leb a.count x) 0 a.list.now c.loop-i.i (omega arith) (lt-leb a.count (get_or a.list.now c.loop-i.i 0) (omega arith)) c.loop-i.invariant
 
 pub returns : goal.returns
 returns c = passed_all (λ x. leb c.args.count x) c.loop-i-test.false c.loop-i.invariant
