@@ -8,14 +8,14 @@ use Rattle.door.proofs.take_readings.Goals as goal
 pub returns-then-count-ns : goal.returns-then-count-ns
 returns-then-count-ns c =
     let a = c.args in
-    let o = lengths_differ a.es.now a.ns.now a.east.now a.north.now c.if-count-ns.true in
-    record { answer = rw c.refused.ensures o.0; east = o.1.0; north = o.1.1 }
+    let o = lengths_differ a.es.now a.ns.now a.east.now a.north.now (λ e. omega arith) in
+    record { answer = cc o.0; east = o.1.0; north = o.1.1 }
 
 pub returns-then-count-gt-MOST : goal.returns-then-count-gt-MOST
 returns-then-count-gt-MOST c =
     let a = c.args in
     let o = too_many a.es.now a.ns.now a.east.now a.north.now (omega arith) (omega arith) in
-    record { answer = rw c.refused-then-count-gt-MOST.ensures o.0; east = o.1.0; north = o.1.1 }
+    record { answer = cc o.0; east = o.1.0; north = o.1.1 }
 
 pub returns-in_default : goal.returns-in_default
 returns-in_default c =
@@ -31,7 +31,7 @@ returns-then-too_short c =
     let all : readings 0 a.es.now a.ns.now ≡ taken (wholes a.es.now) (wholes a.ns.now) =
     sym c.first_bad-found.ensures ∙ ap (readings_as (wholes a.es.now) (wholes a.ns.now)) c.in-Done.is in
     let o = short a.es.now a.ns.now a.east.now a.north.now (omega arith) (omega arith) all (sym c.too_short.ensures ∙ c.if-too_short.true) in
-    record { answer = rw c.refused-then-too_short.ensures o.0; east = o.1.0; north = o.1.1 }
+    record { answer = cc o.0; east = o.1.0; north = o.1.1 }
 
 pub returns : goal.returns
 returns c =
