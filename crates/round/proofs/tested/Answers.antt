@@ -1,6 +1,6 @@
 use Rattle.std.specs.Prelude.{◌≡◌, ℕ, ◌+◌, ◌*◌, ◌≤◌, ◌<◌, Bool, false, true, not, ◌||◌, ltb, leb, List, [], ◌∷◌, map, length, ℤ}
 use Rattle.std.specs.Int.{w64}
-use Rattle.std.proofs.Common.{rules, refl, sym, ap, ◌∙◌, eq-eqb, to_z, of_z}
+use Rattle.std.proofs.Common.{arith, rules, refl, sym, ap, ◌∙◌, eq-eqb, to_z, of_z}
 use mathlib.Core.Path.{ap₂}
 use borrow.Author.Tests.{lt-ltb, le-ltb}
 use Rattle.rules.specs.Lists.{first_place, some_of}
@@ -99,7 +99,7 @@ pub returns-then-room-list : goal.returns-then-room-list
 returns-then-room-list c =
     let s = c.args in
     room_refused s.east.now s.north.now s.list.now s.a s.room c.if-count-north.false c.if-count-gt-MOST.false c.if-list-gt-MOST.false
-    c.first_beyond-place.ensures c.if-place-count.false c.first_unlisted-unlisted.ensures c.if-unlisted-list.false c.if-room-list.true
+    c.first_beyond-place.ensures c.if-place-count.false c.first_unlisted-unlisted.ensures (omega arith) c.if-room-list.true
 
 pub list_spans-requires : goal.list_spans-requires
 list_spans-requires c =
