@@ -15,7 +15,7 @@ use Rattle.laws_rounds.specs.Pairs.{here}
 use Rattle.laws_rounds.specs.Rounds.{Found, Kept, found_says, kept_says, found_bridge, kept_spans, kept-bridge, kept_shorter}
 use Rattle.samples.specs.Positions.{Listed}
 use Rattle.samples.specs.Samples.{spans-two}
-use Rattle.round.specs.declared.core.Said.TheVariants as said
+use Rattle.round.specs.declared.turn.Said.TheVariants as said
 use Rattle.round.specs.Saying.{RoundSays}
 
 module _ (at : ℕ → Stream) (a : ℤ) where

@@ -9,7 +9,7 @@ ghost use Rattle.samples.specs.Positions.{at};
 ghost use Rattle.samples.specs.Tests.{tested_of};
 ghost use Rattle.bridge.specs.Promise.{BridgeAsks, bridge_tests, BridgePromise};
 
-use round::core::{Said, round_of};
+use round::turn::{Said, round_of};
 use samples::tests::{Tested, of_samples, spans};
 use samples::words::clear;
 
