@@ -4,7 +4,7 @@
 -- and empty envelopes joined; adding spreads over joining, and turning about over both. On every course the strongest set of a sum is the sum of the two strongest
 -- sets. A call is any that the entry's own promise allows. Assumes nothing.
 use Rattle.std.specs.Prelude.{◌≡◌, refl, cond, ◌↔◌, ℕ, ℤ, ◌+ℤ◌, length, take}
-use Rattle.std.proofs.Common.{sym, ap, ap₂, ◌∙◌, subst}
+use Rattle.std.proofs.Common.{sym, ap, ap₂, ◌∙◌, subst, subst₂}
 use mathlib.Core.List.{List, [], ◌++◌, map, map-append, append-nil, append_assoc, Memᴰ}
 use Rattle.rules.specs.Streams.{Stream, streams, turned}
 use Rattle.rules.specs.Ring.{ring}
@@ -96,7 +96,7 @@ read-turned xs c {n} e from h d f he hn b =
     let es = take n (records.east_after c) in
     let ns = take n (records.north_after c) in
     let read = subst (λ (s : ℕ). Made (cond (coming_from s) (map turned xs) xs) es ns) from (read_by xs c e h) in
-    let given : Made (map turned xs) (east d) (north d) = rw (he, hn) read in
+    let given : Made (map turned xs) (east d) (north d) = subst₂ (λ (E N : List ℤ). Made (map turned xs) E N) (sym he) (sym hn) read in
     made_ring (joined_by d f given b)
 
 -- ---- trees rearranged
