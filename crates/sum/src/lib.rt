@@ -1,5 +1,6 @@
 // The sum of two rings: the ring of all positions got by adding a corner of one to a corner of the other, in time linear in the corners, by following the
 // two outlines together.
+#![tactic(auto)]
 
 ghost use Rattle.std.specs.Prelude.{◌≡◌};
 ghost use Rattle.rules.specs.Lists.{some_of, zeros};
