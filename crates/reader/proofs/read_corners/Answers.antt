@@ -46,21 +46,21 @@ pub returns-then-not-is_envelope-clause-answer : goal.returns-then-not-is_envelo
 returns-then-not-is_envelope-clause-answer c =
     let a = c.args in
     let cs = a.corners.now in
-    rw (refused_9 a.sense cs a.east.now a.north.now (few cs c.if-n-gt-MOST.false) (near cs c.first_beyond-place.ensures c.if-place-n.false) (sym c.if-not-is_envelope.ensures)) refl
+    rw (refused_9 a.sense cs a.east.now a.north.now (few cs c.if-n-gt-MOST.false) (near cs c.first_beyond-place.ensures c.if-place-n.false) (cc)) refl
 
 pub returns-then-too_short-clause-answer : goal.returns-then-too_short-clause-answer
 returns-then-too_short-clause-answer c =
     let a = c.args in
     let cs = a.corners.now in
-    rw (short a.sense cs a.east.now a.north.now (few cs c.if-n-gt-MOST.false) (near cs c.first_beyond-place.ensures c.if-place-n.false) (sym c.if-not-is_envelope.ensures) (decided cs a.east.now a.north.now c.if-too_short.ensures)) refl
+    rw (short a.sense cs a.east.now a.north.now (few cs c.if-n-gt-MOST.false) (near cs c.first_beyond-place.ensures c.if-place-n.false) (cc) (decided cs a.east.now a.north.now c.if-too_short.ensures)) refl
 
 pub returns-clause-answer : goal.returns-clause-answer
 unfolding in_sense
 returns-clause-answer c =
     let a = c.args in
     let cs = a.corners.now in
-    rw (answered a.sense cs a.east.now a.north.now (few cs c.if-n-gt-MOST.false) (near cs c.first_beyond-place.ensures c.if-place-n.false) (sym c.if-not-is_envelope.ensures) (decided cs a.east.now a.north.now c.if-too_short.ensures))
-    (ap done (sym (sense-length a.sense (corners_in cs) (sym c.if-not-is_envelope.ensures) ∙ corners-count cs)))
+    rw (answered a.sense cs a.east.now a.north.now (few cs c.if-n-gt-MOST.false) (near cs c.first_beyond-place.ensures c.if-place-n.false) (cc) (decided cs a.east.now a.north.now c.if-too_short.ensures))
+    (ap done (sym (sense-length a.sense (corners_in cs) (cc) ∙ corners-count cs)))
 
 pub returns-then-n-gt-MOST-clause-east : goal.returns-then-n-gt-MOST-clause-east
 returns-then-n-gt-MOST-clause-east c =
@@ -81,20 +81,20 @@ pub returns-then-not-is_envelope-clause-east : goal.returns-then-not-is_envelope
 returns-then-not-is_envelope-clause-east c =
     let a = c.args in
     let cs = a.corners.now in
-    rw (refused_9 a.sense cs a.east.now a.north.now (few cs c.if-n-gt-MOST.false) (near cs c.first_beyond-place.ensures c.if-place-n.false) (sym c.if-not-is_envelope.ensures)) refl
+    rw (refused_9 a.sense cs a.east.now a.north.now (few cs c.if-n-gt-MOST.false) (near cs c.first_beyond-place.ensures c.if-place-n.false) (cc)) refl
 
 pub returns-then-too_short-clause-east : goal.returns-then-too_short-clause-east
 returns-then-too_short-clause-east c =
     let a = c.args in
     let cs = a.corners.now in
-    rw (short a.sense cs a.east.now a.north.now (few cs c.if-n-gt-MOST.false) (near cs c.first_beyond-place.ensures c.if-place-n.false) (sym c.if-not-is_envelope.ensures) (decided cs a.east.now a.north.now c.if-too_short.ensures)) refl
+    rw (short a.sense cs a.east.now a.north.now (few cs c.if-n-gt-MOST.false) (near cs c.first_beyond-place.ensures c.if-place-n.false) (cc) (decided cs a.east.now a.north.now c.if-too_short.ensures)) refl
 
 pub returns-clause-east : goal.returns-clause-east
 unfolding in_sense
 returns-clause-east c =
     let a = c.args in
     let cs = a.corners.now in
-    rw (answered a.sense cs a.east.now a.north.now (few cs c.if-n-gt-MOST.false) (near cs c.first_beyond-place.ensures c.if-place-n.false) (sym c.if-not-is_envelope.ensures) (decided cs a.east.now a.north.now c.if-too_short.ensures))
+    rw (answered a.sense cs a.east.now a.north.now (few cs c.if-n-gt-MOST.false) (near cs c.first_beyond-place.ensures c.if-place-n.false) (cc) (decided cs a.east.now a.north.now c.if-too_short.ensures))
     c.write.ensures.east
 
 pub returns-then-n-gt-MOST-clause-north : goal.returns-then-n-gt-MOST-clause-north
@@ -116,20 +116,20 @@ pub returns-then-not-is_envelope-clause-north : goal.returns-then-not-is_envelop
 returns-then-not-is_envelope-clause-north c =
     let a = c.args in
     let cs = a.corners.now in
-    rw (refused_9 a.sense cs a.east.now a.north.now (few cs c.if-n-gt-MOST.false) (near cs c.first_beyond-place.ensures c.if-place-n.false) (sym c.if-not-is_envelope.ensures)) refl
+    rw (refused_9 a.sense cs a.east.now a.north.now (few cs c.if-n-gt-MOST.false) (near cs c.first_beyond-place.ensures c.if-place-n.false) (cc)) refl
 
 pub returns-then-too_short-clause-north : goal.returns-then-too_short-clause-north
 returns-then-too_short-clause-north c =
     let a = c.args in
     let cs = a.corners.now in
-    rw (short a.sense cs a.east.now a.north.now (few cs c.if-n-gt-MOST.false) (near cs c.first_beyond-place.ensures c.if-place-n.false) (sym c.if-not-is_envelope.ensures) (decided cs a.east.now a.north.now c.if-too_short.ensures)) refl
+    rw (short a.sense cs a.east.now a.north.now (few cs c.if-n-gt-MOST.false) (near cs c.first_beyond-place.ensures c.if-place-n.false) (cc) (decided cs a.east.now a.north.now c.if-too_short.ensures)) refl
 
 pub returns-clause-north : goal.returns-clause-north
 unfolding in_sense
 returns-clause-north c =
     let a = c.args in
     let cs = a.corners.now in
-    rw (answered a.sense cs a.east.now a.north.now (few cs c.if-n-gt-MOST.false) (near cs c.first_beyond-place.ensures c.if-place-n.false) (sym c.if-not-is_envelope.ensures) (decided cs a.east.now a.north.now c.if-too_short.ensures))
+    rw (answered a.sense cs a.east.now a.north.now (few cs c.if-n-gt-MOST.false) (near cs c.first_beyond-place.ensures c.if-place-n.false) (cc) (decided cs a.east.now a.north.now c.if-too_short.ensures))
     c.write.ensures.north
 
 pub first_beyond-place-requires : goal.first_beyond-place-requires
@@ -141,7 +141,7 @@ is_envelope-requires c =
     passed cs (near cs c.first_beyond-place.ensures c.if-place-n.false)
 
 pub first_corner-first-requires : goal.first_corner-first-requires
-first_corner-first-requires c = (sym (corners-count c.args.corners.now), sym c.if-not-is_envelope.ensures)
+first_corner-first-requires c = (sym (corners-count c.args.corners.now), cc)
 
 pub write-requires : goal.write-requires
 write-requires c =
