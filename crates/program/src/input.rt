@@ -3,6 +3,8 @@
 ghost use Rattle.std.specs.Prelude.{◌≤◌, length, drop};
 ghost use Rattle.program.specs.Input.{Within};
 
+use std::io::{Read, Stdin};
+
 // What came of reading: so many bytes at the front, or a read that failed.
 #[derive(Clone, Copy)]
 pub enum Input {
@@ -11,12 +13,12 @@ pub enum Input {
 }
 
 // Reads until the text is full or the input ends.
-pub fn read(text: &mut [u8]) -> Input
+pub fn read(stdin: &mut Stdin, text: &mut [u8]) -> Input
     ensures { Within text.new result }
 {
     let mut count: usize = 0;
     while count < text.len() {
-        match read_on(text, count) {
+        match read_on(stdin, text, count) {
             Input::Failed => {
                 return Input::Failed;
             }
@@ -32,13 +34,12 @@ pub fn read(text: &mut [u8]) -> Input
 }
 
 // One read, behind the bytes that came before. It brings no byte where the input ends.
-fn read_on(text: &mut [u8], count: usize) -> Input
+fn read_on(stdin: &mut Stdin, text: &mut [u8], count: usize) -> Input
     requires { count ≤ length text.old }
     ensures { Within (drop count text.new) result }
 {
-    let got = libc::read(0, &mut text[count..]);
-    if got < 0 {
-        return Input::Failed;
+    match stdin.read(&mut text[count..]) {
+        Ok(more) => Input::Bytes(more),
+        Err(_) => Input::Failed,
     }
-    Input::Bytes(io::count(got, &text[count..]))
 }

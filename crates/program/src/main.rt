@@ -1,26 +1,32 @@
 // The program: lines of samples from standard input, their ring or a refusal to standard output. It reads, calls and writes.
+#![tactic(auto)]
 
 mod answer;
 mod input;
 
 use answer::{ROOM, answer_input};
 use input::{Input, read};
+use std::io;
+use std::io::Print;
 
 // so many bytes decide a text: 512 lines of at most 18 bytes, and one more
 const ENOUGH: usize = 9217;
 
-fn main() {
+fn main(rt: HostRuntime) -> io::Result<()> {
     let mut text = [0u8; ENOUGH];
-    match read(&mut text) {
-        Input::Failed => {
-            io::write_all(2, b"envelope: standard input cannot be read\n");
-        }
+    match read(&mut rt.stdin(), &mut text) {
+        Input::Failed => rt
+            .stderr()
+            .write_all(b"envelope: standard input cannot be read\n"),
         Input::Bytes(count) => {
             let mut out = [0u8; ROOM];
             let printed = answer_input(&text, count, &mut out);
-            if !io::write_all(1, &out[..printed]) {
-                io::write_all(2, b"envelope: standard output cannot be written\n");
+            if rt.stdout().write_all(&out[..printed]).is_err() {
+                return rt
+                    .stderr()
+                    .write_all(b"envelope: standard output cannot be written\n");
             }
+            Ok(())
         }
     }
 }
