@@ -1,4 +1,4 @@
-//! Links the library's archive, which `rt staticlib exports` writes: the one that `NUOSKELMA_ARCHIVE` names, or `target/staticlib/libexports.a` of the
+//! Links the library's archive, which `tests/driver/archive` writes: the one that `NUOSKELMA_ARCHIVE` names, or `target/staticlib/libexports.a` of the
 //! repository. It asks for nothing but the C library's `memset`, which every Rust program has.
 
 use std::path::{Path, PathBuf};
@@ -23,7 +23,7 @@ fn link(archive: &Path) {
     println!("cargo:rerun-if-changed={}", archive.display());
     let Ok(whole) = archive.canonicalize() else {
         eprintln!("there is no archive at {}", archive.display());
-        eprintln!("write it with `rt staticlib exports` in the repository, or name another one by NUOSKELMA_ARCHIVE");
+        eprintln!("write it with `tests/driver/archive` in the repository, or name another one by NUOSKELMA_ARCHIVE");
         process::exit(1);
     };
     let (Some(folder), Some(name)) = (whole.parent(), whole.file_name()) else {
