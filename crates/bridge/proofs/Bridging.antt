@@ -12,7 +12,8 @@ use Rattle.rules.specs.Bridge.{Bridge, ends, spans}
 use Rattle.laws_outline.specs.Bridges.{BridgeOver, bridge-is, bridge_unique}
 use Rattle.laws_rounds.specs.ListedItems.{first_of, kept_in}
 use Rattle.laws_rounds.specs.Pairs.{here}
-use Rattle.laws_rounds.specs.Rounds.{Found, Kept, found_says, kept_says, found_bridge, kept_spans, kept-bridge, kept_shorter}
+use Rattle.laws_rounds.specs.Rounds.{Found, Kept, found_bridge, kept_spans, kept-bridge}
+use Rattle.laws_rounds.proofs.Rounds.{found_says, kept_says, kept_shorter}
 use Rattle.samples.specs.Positions.{Listed}
 use Rattle.samples.specs.Samples.{spans-two}
 use Rattle.round.specs.declared.turn.Said.TheVariants as said

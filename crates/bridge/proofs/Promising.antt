@@ -15,8 +15,10 @@ use Rattle.rules.specs.Bridge.{Bridge, ends, bridge, spans}
 use Rattle.rules.specs.Round.{round, rounds}
 use Rattle.rules.specs.Refusals.{Answer, done, scratch_after}
 use Rattle.rules.specs.Entries.{reported_bridge, bridge_answer}
-use Rattle.laws_rounds.specs.Rounds.{Found, rounds_find}
-use Rattle.laws_rounds.specs.WholeList.{numbers, numbers-length, numbers-samples, rounds_report}
+use Rattle.laws_rounds.specs.Rounds.{Found}
+use Rattle.laws_rounds.specs.WholeList.{numbers, numbers-length, numbers-samples}
+use Rattle.laws_rounds.proofs.Rounds.{rounds_find}
+use Rattle.laws_rounds.proofs.WholeList.{rounds_report}
 use Rattle.samples.specs.declared.tests.Tested.{Tested}
 use Rattle.samples.specs.declared.tests.Tested.TheVariants as tests
 use Rattle.samples.specs.Positions.{at, Sampled}

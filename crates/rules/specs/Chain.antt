@@ -5,7 +5,7 @@
 -- First what a chain is, said of any set of samples, then a function that computes it. That the computed chain is one, and the only one, are laws:
 -- `upper_is` and `upper_only` of `laws_outline` Chains.
 -- Assumes nothing.
-use Rattle.std.specs.Prelude.{◌≡◌, Bool, ◌||◌, ◌&&◌, ℕ, zero, suc, ℤ, pos, ◌≤ℤ◌, ◌<ℤ◌, length}
+use Rattle.std.specs.Prelude.{◌≡◌, Bool, ◌||◌, ◌&&◌, ℕ, zero, suc, pos, ◌≤ℤ◌, ◌<ℤ◌, length}
 use Rattle.std.proofs.Math.Option.{Option, none, some}
 use mathlib.Core.List.{List, [], ◌∷◌, map, Memᴰ}
 use Rattle.std.specs.Int.Signed.{lt_z}
