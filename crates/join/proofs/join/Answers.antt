@@ -45,7 +45,7 @@ returns-then-both-gt-MOST c =
     let r = joined a.east.now a.north.now a.east2.now a.north2.now in
     outcome_refused 2 0
     (many_refused a.east.now a.north.now a.east2.now a.north2.now a.scratch.now (own a.out_east.now a.out_north.now r) r (sym c.in-Passed.ensures)
-    (sym c.in-Passed-of_ring.ensures) c.if-both-gt-MOST.true)
+    (sym c.in-Passed-of_ring.ensures) (omega arith))
     refl
 
 pub returns-then-scratch-both : goal.returns-then-scratch-both
@@ -55,7 +55,7 @@ returns-then-scratch-both c =
     let r = joined a.east.now a.north.now a.east2.now a.north2.now in
     outcome_refused 4 0
     (scratch_refused a.east.now a.north.now a.east2.now a.north2.now a.scratch.now (own a.out_east.now a.out_north.now r) r (sym c.in-Passed.ensures)
-    (sym c.in-Passed-of_ring.ensures) c.if-both-gt-MOST.false c.if-scratch-both.true)
+    (sym c.in-Passed-of_ring.ensures) (omega arith) (omega arith))
     refl
 
 pub write_join-requires : goal.write_join-requires
@@ -63,7 +63,7 @@ write_join-requires c =
     let a = c.args in
     let one = sound a.east.now a.north.now (sym c.in-Passed.ensures) in
     let two = sound a.east2.now a.north2.now (sym c.in-Passed-of_ring.ensures) in
-    (record { first = one; second = two; few = c.if-both-gt-MOST.false }, omega arith)
+    (record { first = one; second = two; few = omega arith }, omega arith)
 
 pub returns : goal.returns
 unfolding join_answer
@@ -74,5 +74,5 @@ returns c =
     subst (λ (answer : Answer (List Stream)). Outcome answer w.result a.out_east.now w.new.out_east a.out_north.now
     w.new.out_north a.scratch.now w.new.scratch)
     (sym (all_pass a.east.now a.north.now a.east2.now a.north2.now a.scratch.now (own a.out_east.now a.out_north.now r) r (sym c.in-Passed.ensures)
-    (sym c.in-Passed-of_ring.ensures) c.if-both-gt-MOST.false c.if-scratch-both.false))
+    (sym c.in-Passed-of_ring.ensures) (omega arith) (omega arith)))
     w.ensures
