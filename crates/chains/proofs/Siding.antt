@@ -9,6 +9,7 @@ use Prim.Native.Nat.{ℕ, zero, suc, ◌+◌, ◌-◌, ◌*◌, ◌≤◌, ◌<�
 use native.Mathlib.Nat.{le_refl}
 use native.Mathlib.Omega.{arith}
 use lib.IntN.{ℤ}
+use Rattle.std.specs.Prelude.{Option, Some, None}
 use lib.Dec.{ltb}
 use lib.ListN.{length, take, drop}
 use lib.Seq.{length-take-le, take-append-le, drop_at}
@@ -16,9 +17,8 @@ use borrow.Author.Tests.{ltb-false}
 use borrow.Rule.Slice.PartMut.{mid_of, put_mid, mid_len, same_len_mid, take_put}
 use Rattle.rules.specs.Streams.{Stream, streams, most}
 use Rattle.rules.specs.Chain.{corners, upper, lower, upper_numbers, lower_numbers}
-use Rattle.rules.specs.Refusals.{Test, test}
+use Rattle.rules.specs.Refusals.{Answer, refused, done, Test, test, unless}
 use Rattle.rules.specs.Entries.{step_without_bridge}
-use Rattle.rules.specs.Entries as entries
 use Rattle.laws_outline.specs.ListLaws.{those-most, those_in}
 use Rattle.laws_rounds.specs.ListedItems.{first_of_in}
 use Rattle.laws_rounds.specs.Pairs.{here}
@@ -30,13 +30,13 @@ use Rattle.step.specs.Ends.{EndOf, nearest}
 use Rattle.step.specs.Chaining.{Chainable}
 use Rattle.step.specs.Stepping.{side_samples, number_at, ChainAsks, ChainSays}
 use Rattle.step.specs.FirstList.{first_chainable, first-chain, end_is}
-use Rattle.step.specs.declared.Stepped.{Stepped}
-use Rattle.step.specs.declared.Stepped.TheVariants.{Chain, NoBridge}
 use Rattle.laws_outline.specs.Numbers.{lower-mirrored}
-use Rattle.samples.specs.Tests.{tested_of, room_tests, then_tested, tested_by, passed_by, passed_tests, sampled_few, quiet-scratch}
-use Rattle.samples.specs.declared.tests.Tested.{Tested}
-use Rattle.samples.specs.declared.tests.Tested.TheVariants.{Passed, Refused}
-use Rattle.chains.specs.BothSides.{side_numbers, SideAsks, SideIs, SideSays, BothAre, SidesRefused}
+use Rattle.samples.specs.InOrder.{room_tests, refused_too, then_answer, answer_by, passed_by, passed_tests, sampled_few, quiet-scratch}
+use Rattle.samples.specs.Answers.{number_of}
+use Rattle.samples.specs.Listed.{parts_of}
+use Rattle.samples.specs.declared.refusals.Refusal.{Refusal}
+use Rattle.samples.specs.declared.listed.Samples as held
+use Rattle.chains.specs.BothSides.{side_numbers, SideAsks, SideIs, SideSays, BothAre, tested, SidesRefused, SidesMade}
 
 -- ---- the numbers of a side
 
@@ -64,7 +64,7 @@ all-below (suc n) x m =
     (λ k. let o = Memᴰ.of_map suc (numbers n) k in omega (arith, all-below n o.0 o.1, o.2))
     (Memᴰ.cases_cons m)
 
-module _ {es ns : List ℤ} {w : List ℕ} (lower : Bool) (asks : SideAsks es ns w) (some_sample : 1 ≤ length es) {p q : ℕ}
+module _ {es ns : List ℤ} {w : List ℕ} (lower : Bool) (sampled : Sampled es ns) (asks : SideAsks es w) (some_sample : 1 ≤ length es) {p q : ℕ}
     (p_is : p ≡ nearest (at es ns lower) false (drop 1 (numbers (length es))))
     (q_is : q ≡ nearest (at es ns lower) true (drop 1 (numbers (length es)))) where
   abbrev to : ℕ → Stream
@@ -101,25 +101,24 @@ module _ {es ns : List ℤ} {w : List ℕ} (lower : Bool) (asks : SideAsks es ns
     pub chain_asks : ChainAsks es ns lower w₁ t p q
     chain_asks =
         record {
-          sampled = asks.sampled;
           listed = subst⁻¹ (Listed (length es)) l.front first-listed;
           left_below = end_below left_end;
           right_below = end_below right_end;
-          chainable = subst⁻¹ (λ (k : List ℕ). Chainable to (number_at es ns lower) k p q) l.front (first_chainable es ns asks.sampled.even lower left_end right_end);
+          chainable = subst⁻¹ (λ (k : List ℕ). Chainable to (number_at es ns lower) k p q) l.front (first_chainable es ns sampled.even lower left_end right_end);
           room = omega (arith, asks.room, long, count, first_few);
         }
 
-    pub side_says : (r : Stepped) (after : List ℕ) → ChainSays to (number_at es ns lower) (take t w₁) p q r after → SideSays es ns lower r after
-    side_says (Chain m) after c =
+    pub side_says : (r : Option ℕ) (after : List ℕ) → ChainSays to (number_at es ns lower) (take t w₁) p q r after → SideSays es ns lower r after
+    side_says (Some m) after c =
         record {
           numbers =
               c.corners
-              ∙ ap (map (number_at es ns lower)) (first-chain es ns asks.sampled.even lower left_end right_end
+              ∙ ap (map (number_at es ns lower)) (first-chain es ns sampled.even lower left_end right_end
               (subst (λ (k : List ℕ). BySteps (map to k) (to p) (to q) c.chain) l.front c.by_steps))
               ∙ reported es ns lower;
           few = omega (arith, c.few, ap (λ (k : List ℕ). length k) l.front, first_few);
         }
-    side_says NoBridge after c = c
+    side_says None after c = c
 
 -- ---- both sides
 
@@ -142,9 +141,9 @@ both_are {es} {ns} {u} {v} {w} {ys} room a b long =
 
 -- ---- the tests
 
-then_passed : (t : Tested) → then_tested t Passed ≡ t
-then_passed Passed = refl
-then_passed (Refused number place) = refl
+then_passed : (t : Answer (Unit {0})) → then_answer t (done tt) ≡ t
+then_passed (done x) = refl
+then_passed (refused number place) = refl
 
 module _ (es ns : List ℤ) (w : List ℕ) where
   -- 1, 2, 3, 4
@@ -152,22 +151,51 @@ module _ (es ns : List ℤ) (w : List ℕ) where
   tests = room_tests es ns (length w)
 
   -- what they say is what all say, since 18 is never given
-  pub tested_all : {t : Tested} → tested_of tests ≡ t → tested_of (entries.sample_tests es ns w) ≡ t
+  tested_all : {t : Answer (Unit {0})} → unless tests tt ≡ t → tested es ns w ≡ t
   tested_all {t} e =
       let last = test 18 0 (step_without_bridge (streams es ns)) ∷ [] in
-      tested_by tests last e ∙ ap (then_tested t) (passed_by last (no_step_without_bridge (streams es ns), tt)) ∙ then_passed t
+      answer_by tests last tt tt e ∙ ap (then_answer t) (passed_by {x = tt} last (no_step_without_bridge (streams es ns), tt)) ∙ then_passed t
 
-  pub sides_refused : {number place : ℕ} → tested_of tests ≡ Refused number place → SidesRefused es ns w number place w
-  sides_refused e = record { tests = tested_all e; scratch-is = sym (quiet-scratch tests tt e w) }
+  abbrev both : List ℤ × List ℤ
+  both = (es, ns)
 
--- samples that pass, with room for both sides
-pub record Admitted (es ns : List ℤ) (w : List ℕ) : Type 0 where
-  pub sampled : Sampled es ns
-  pub few : length es ≤ most
-  pub room : 16 * length es + 64 ≤ length w
+  pub sides_refused : (r : Refusal) → refused (number_of r.reason) r.place ≡ unless tests both → SidesRefused es ns w (number_of r.reason) r.place w
+  sides_refused r e = record {
+    tests = tested_all (refused_too both tt tests (sym e));
+    scratch-is = sym (quiet-scratch both tests tt (sym e) w);
+  }
 
-pub admitted : (es ns : List ℤ) (w : List ℕ) → tested_of (room_tests es ns (length w)) ≡ Passed → Admitted es ns w
-admitted es ns w e =
-    let n = passed_tests (room_tests es ns (length w)) e in
-    let s = sampled_few es ns (test 4 0 (ltb (length w) (16 * length es + 64)) ∷ []) n in
-    record { sampled = s.0; few = s.1; room = ltb-false (length w) (16 * length es + 64) n.1.1.1.0 }
+  -- samples that pass are those of the two lists, with room for both sides
+  pub record Admitted (s : held.Samples) : Type 0 where
+    pub same : parts_of s ≡ both
+    pub passed : tested es ns w ≡ done tt
+    pub few : length s.east.now ≤ most
+    pub room : 16 * length s.east.now + 64 ≤ length w
+
+  pub admitted : (s : held.Samples) → done (parts_of s) ≡ unless tests both → Admitted s
+  admitted s e =
+      let n = passed_tests both tests (sym e) in
+      let p : done (parts_of s) ≡ done both = e ∙ passed_by tests n in
+      let same : parts_of s ≡ both = cc in
+      let long : length s.east.now ≡ length es = ap (λ (x : List ℤ × List ℤ). length x.0) same in
+      record {
+        same = same;
+        passed = tested_all (passed_by tests n);
+        few = omega (arith, (sampled_few es ns (test 4 0 (ltb (length w) (16 * length es + 64)) ∷ []) n).1, long);
+        room = omega (arith, ltb-false (length w) (16 * length es + 64) n.1.1.1.0, long);
+      }
+
+  -- the upper side leaves room for the lower one, and both are made
+  module _ {s : held.Samples} {u : ℕ} {now : List ℕ} (d : Admitted s) (upper : SideIs s.east.now s.north.now false u now) (long : length now ≡ length w) where
+    left : u + 4 * (length s.east.now + 2) ≤ length now
+    left = omega (arith, d.room, upper.few, long)
+
+    pub second_room : SideAsks s.east.now (mid_of u (length now - u) now)
+    second_room = record { few = d.few; room = omega (arith, left, mid_len u (length now) now (le_refl (length now))) }
+
+    pub sides_made : {v : ℕ} {ys : List ℕ} → SideIs s.east.now s.north.now true v ys → length ys ≡ length (mid_of u (length now - u) now)
+        → SidesMade es ns w (record { upper = u; lower = v }) (put_mid u (length now - u) now ys)
+    sides_made {v} {ys} lower same_length = record {
+      tests = d.passed;
+      both = subst (λ (x : List ℤ × List ℤ). BothAre x.0 x.1 u v (put_mid u (length now - u) now ys)) d.same (both_are left upper lower same_length);
+    }

@@ -2,38 +2,29 @@
 ghost use Rattle.std.specs.Prelude.{◌+◌, ◌≤◌, length, take, drop};
 ghost use Rattle.chains.specs.Promise.{ChainsWritten};
 
-use super::ChainsAnswer;
-use samples::words::{clear, write};
+use super::Counts;
+use samples::refusals::{Reason, Refusal};
 
-// Two chains of u and v numbers at the front of scratch.
+// Two chains of so many numbers at the front of scratch.
 pub fn both(
-    u: usize,
-    v: usize,
+    counts: Counts,
     upper: &mut [u32],
     lower: &mut [u32],
     scratch: &mut [u32],
-) -> ChainsAnswer
-    requires { u + v ≤ length scratch.old }
-    ensures { ChainsWritten (take u scratch.old) (take v (drop u scratch.old)) upper.old lower.old
-        scratch.old result upper.new lower.new scratch.new }
+) -> Result<Counts, Refusal>
+    requires { counts.upper + counts.lower ≤ length scratch.old }
+    ensures { ChainsWritten (take counts.upper scratch.old) (take counts.lower (drop counts.upper scratch.old))
+        upper.old lower.old scratch.old result upper.new lower.new scratch.new }
 {
-    if upper.len() < u {
-        clear(scratch);
-        return ChainsAnswer::Refused {
-            number: 5,
-            place: 0,
-        };
-    }
-    if lower.len() < v {
-        clear(scratch);
-        return ChainsAnswer::Refused {
-            number: 5,
-            place: 0,
-        };
+    let u = counts.upper;
+    let v = counts.lower;
+    if upper.len() < u || lower.len() < v {
+        scratch.fill(0);
+        return Err(Reason::OutputShort.into());
     }
     let end = u + v;
-    write(&scratch[..u], upper);
-    write(&scratch[u..end], lower);
-    clear(scratch);
-    ChainsAnswer::Done { upper: u, lower: v }
+    upper[..u].copy_from_slice(&scratch[..u]);
+    lower[..v].copy_from_slice(&scratch[u..end]);
+    scratch.fill(0);
+    Ok(counts)
 }

@@ -1,3 +1,4 @@
 pub mod TwoChains
+pub mod HeldChains
 pub mod RingPromise
 pub mod RingWritten

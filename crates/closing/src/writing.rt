@@ -2,10 +2,11 @@
 
 ghost use Rattle.std.specs.Prelude.{◌≡◌, ◌++◌, ◌+◌, ◌^◌, ◌<◌, drop};
 ghost use Rattle.laws_stack.specs.Places.{listed};
-ghost use Rattle.walk.specs.TwoRings.{Corners, count};
-ghost use Rattle.closing.specs.TwoChains.{ring_place, ring_corner, Room};
+ghost use Rattle.walk.specs.HeldRings.{size};
+ghost use Rattle.closing.specs.TwoChains.{ring_place, Room};
+ghost use Rattle.closing.specs.HeldChains.{corner_in};
 
-use walk::corners::listed;
+use walk::corners::Rings;
 
 // Where the ring's corner i stands in w: on the upper chain, or on the way back.
 fn place(u: usize, hi: usize, i: usize) -> usize
@@ -20,10 +21,7 @@ fn place(u: usize, hi: usize, i: usize) -> usize
 
 // The ring's n corners at the front of the outputs.
 pub fn put(
-    east: &[i32],
-    north: &[i32],
-    east2: &[i32],
-    north2: &[i32],
+    rings: Rings,
     w: &[u32],
     u: usize,
     hi: usize,
@@ -31,20 +29,15 @@ pub fn put(
     out_east: &mut [i32],
     out_north: &mut [i32],
 )
-    requires { Corners east.now north.now east2.now north2.now
-        × Room (count east.now east2.now) w.now u hi n out_east.old out_north.old }
+    requires { Room (size rings) w.now u hi n out_east.old out_north.old }
     ensures { (out_east.new
-        ≡ listed (λ i. (ring_corner east.now north.now east2.now north2.now w.now u hi i).east) n ++ drop n out_east.old)
+        ≡ listed (λ i. (corner_in rings.entry w.now u hi i).east) n ++ drop n out_east.old)
         × (out_north.new
-        ≡ listed (λ i. (ring_corner east.now north.now east2.now north2.now w.now u hi i).north) n ++ drop n out_north.old) }
+        ≡ listed (λ i. (corner_in rings.entry w.now u hi i).north) n ++ drop n out_north.old) }
 {
-    let mut i = 0;
-    while i < n {
-        let s = listed(east, north, east2, north2, false, w, place(u, hi, i));
-        let e = s.east;
-        let m = s.north;
-        out_east[i] = e;
-        out_north[i] = m;
-        i += 1;
+    for i in 0..n {
+        let s = rings.listed(false, w, place(u, hi, i));
+        out_east[i] = s.east;
+        out_north[i] = s.north;
     }
 }

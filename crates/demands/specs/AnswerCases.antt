@@ -1,54 +1,51 @@
--- The case of an entry's answer, from what it says in the rules' words. Assumes nothing.
-use Rattle.std.specs.Prelude.{◌≡◌, refl, true, ℕ}
-use Rattle.std.proofs.Common.{sym, arith}
+-- What an entry answered, from what it says in the rules' words. Assumes nothing.
+use Rattle.std.specs.Prelude.{◌≡◌, ℕ, Result, Ok, Err}
+use Rattle.std.proofs.Common.{sym, ap, ap₂, arith}
 use Rattle.rules.specs.Bridge.{Bridge}
 use Rattle.rules.specs.Refusals.{refused, done}
 use Rattle.rules.specs.Entries.{Strongest}
-use Rattle.chains.specs.Promise as chains
-use Rattle.chains.specs.declared.ChainsAnswer.{ChainsAnswer}
-use Rattle.chains.specs.declared.ChainsAnswer.TheVariants as chains-said
-use Rattle.bridge.specs.Promise as bridge
-use Rattle.bridge.specs.declared.BridgeAnswer.{BridgeAnswer}
-use Rattle.bridge.specs.declared.BridgeAnswer.TheVariants as bridge-said
+use Rattle.samples.specs.Answers.{answer_as, answer_of, number_of, number_injective}
+use Rattle.samples.specs.declared.refusals.Refusal.{Refusal}
+use Rattle.samples.specs.declared.refusals.Reason.{Reason}
+use Rattle.bridge.specs.Promise.{ends_of}
+use Rattle.bridge.specs.declared.Ends.{Ends}
 use Rattle.round.specs.Promise as rounding
-use Rattle.round.specs.declared.RoundAnswer.{RoundAnswer}
-use Rattle.round.specs.declared.RoundAnswer.TheVariants as round-said
-use Rattle.envelope.specs.UseAnswers.{strongest_as, covered_as}
-use Rattle.envelope.specs.declared.strongest.StrongestSet.{StrongestSet}
-use Rattle.envelope.specs.declared.strongest.StrongestSet.TheVariants as strongest
-use Rattle.envelope.specs.declared.cover.Covered.{Covered}
-use Rattle.envelope.specs.declared.cover.Covered.TheVariants as cover
+use Rattle.round.specs.declared.turn.Said.{Said}
+use Rattle.round.specs.declared.turn.Said.TheVariants as round-said
+use Rattle.envelope.specs.UseAnswers.{strongest_as}
+use Rattle.envelope.specs.declared.strongest.Greatest.{Greatest}
 
 no_answer : {A : Type 0} {number place : ℕ} {x : A} {R : Type 0} → refused number place ≡ done x → R
 no_answer e = absurd (let z : ◌≡◌ {A = ℕ} 0 1 = cc in omega arith)
 
-pub chains_done : (r : ChainsAnswer) {c : chains.Counts} → chains.answer_as r ≡ done c → r ≡ chains-said.Done c.upper c.lower
-chains_done (chains-said.Done u v) e = cc
-chains_done (chains-said.Refused number place) e = no_answer e
+-- an entry that is done answers what the rules say
+pub answer_done : {A : Type 0} (r : Result A Refusal) {x : A} → answer_of r ≡ done x → r ≡ Ok x
+answer_done (Ok y) e = cc
+answer_done (Err r) e = no_answer e
 
-pub bridge_found : (r : BridgeAnswer) {b : Bridge ℕ} → bridge.answer_as r ≡ done b → r ≡ bridge-said.Found b.left b.right
-bridge_found (bridge-said.Found i j) e = cc
-bridge_found (bridge-said.Refused number place) e = no_answer e
+-- one that is refused answers with the reason of that number
+pub answer_refused : {A B : Type 0} (f : A → B) (r : Result A Refusal) (reason : Reason) {place : ℕ} → answer_as f r ≡ refused (number_of reason) place
+    → r ≡ Err (record { reason = reason; place = place })
+answer_refused f (Ok x) reason e = no_answer (sym e)
+answer_refused f (Err r) reason e =
+    let number : number_of r.reason ≡ number_of reason = cc in
+    let place : r.place ≡ _ = cc in
+    ap₂ (λ (k : Reason) (p : ℕ). Err (record { reason = k; place = p })) (number_injective r.reason reason number) place
 
-pub bridge_refused : (r : BridgeAnswer) {number place : ℕ} → bridge.answer_as r ≡ refused number place → r ≡ bridge-said.Refused number place
-bridge_refused (bridge-said.Found i j) e = no_answer (sym e)
-bridge_refused (bridge-said.Refused number place) e = cc
+pub bridge_found : (r : Result Ends Refusal) {b : Bridge ℕ} → answer_as ends_of r ≡ done b → r ≡ Ok (record { left = b.left; right = b.right })
+bridge_found (Ok e) {b} h = let is : b ≡ ends_of e = cc in ap (λ (b : Bridge ℕ). Ok (record { left = b.left; right = b.right })) (sym is)
+bridge_found (Err r) h = no_answer h
 
-pub round_found : (r : RoundAnswer) {b : Bridge ℕ} → rounding.answer_as r ≡ done (rounding.bridge_of b) → r ≡ round-said.Found b.left b.right
-round_found (round-said.Found i j) e = cc
-round_found (round-said.Kept m) e = absurd (let z : ◌≡◌ {A = ℕ} 0 1 = cc in omega arith)
-round_found (round-said.Refused number place) e = no_answer e
+pub round_found : (r : Result Said Refusal) {b : Bridge ℕ} → answer_as rounding.told_by r ≡ done (rounding.bridge_of b) → r ≡ Ok (round-said.Found b.left b.right)
+round_found (Ok (round-said.Found i j)) e = cc
+round_found (Ok (round-said.Kept m)) e = absurd (let z : ◌≡◌ {A = ℕ} 0 1 = cc in omega arith)
+round_found (Err r) e = no_answer e
 
-pub round-kept : (r : RoundAnswer) {m : ℕ} → rounding.answer_as r ≡ done (rounding.count_of m) → r ≡ round-said.Kept m
-round-kept (round-said.Found i j) e = absurd (let z : ◌≡◌ {A = ℕ} 0 1 = cc in omega arith)
-round-kept (round-said.Kept m) e = cc
-round-kept (round-said.Refused number place) e = no_answer e
+pub round-kept : (r : Result Said Refusal) {m : ℕ} → answer_as rounding.told_by r ≡ done (rounding.count_of m) → r ≡ Ok (round-said.Kept m)
+round-kept (Ok (round-said.Found i j)) e = absurd (let z : ◌≡◌ {A = ℕ} 0 1 = cc in omega arith)
+round-kept (Ok (round-said.Kept m)) e = cc
+round-kept (Err r) e = no_answer e
 
-pub strongest-greatest : (r : StrongestSet) {s : Strongest} → strongest_as r ≡ done s → r ≡ strongest.Greatest s.set s.place
-strongest-greatest (strongest.Greatest z i) e = cc
-strongest-greatest (strongest.Refused number place) e = no_answer e
-
-pub covered_yes : (r : Covered) → covered_as r ≡ done true → r ≡ cover.Yes
-covered_yes cover.Yes e = refl
-covered_yes cover.No e = absurd (let z : ◌≡◌ {A = ℕ} 0 1 = cc in omega arith)
-covered_yes (cover.Refused number place) e = no_answer e
+pub strongest-greatest : (r : Result Greatest Refusal) {s : Strongest} → answer_as strongest_as r ≡ done s → r ≡ Ok (record { set = s.set; place = s.place })
+strongest-greatest (Ok g) {s} e = let is : s ≡ strongest_as g = cc in ap (λ (s : Strongest). Ok (record { set = s.set; place = s.place })) (sym is)
+strongest-greatest (Err r) e = no_answer e

@@ -2,7 +2,7 @@
 -- lowest at its position; the first corner is the left end and the last the right end; at every corner between them the outline turns strictly right; no
 -- stream lies above an edge; easts rise. The lower chain is the same with every north negated. No other numbers do all this. A call is any that the
 -- entry's own promise allows. Assumes nothing.
-use Rattle.std.specs.Prelude.{◌≡◌, Bool, ◌||◌, ℕ, zero, suc, ◌-◌, ◌≤◌, ◌<◌, ℤ, pos, ◌≤ℤ◌, ◌<ℤ◌, get_or, take, drop}
+use Rattle.std.specs.Prelude.{◌≡◌, Bool, ◌||◌, ℕ, zero, suc, ◌-◌, ◌≤◌, ◌<◌, ℤ, pos, ◌≤ℤ◌, ◌<ℤ◌, get_or, take, drop, Result, Ok}
 use Rattle.std.proofs.Math.Path.{refl, sym, subst₃, subst⁻¹}
 use Rattle.std.proofs.Common.{ap, ◌∙◌, subst, subst₂, arith, drop-cons}
 use Rattle.std.proofs.Math.Bool.{true, false}
@@ -23,13 +23,14 @@ use Rattle.laws_outline.specs.SamePosition.{same_equal, equal_same, no_same}
 use Rattle.laws_outline.specs.Chains.{upper_is, upper_only, upper-corners, upper-edge, upper-turn}
 use Rattle.laws_outline.specs.Numbers.{lower-mirrored}
 use Rattle.samples.specs.Samples.{streams-length}
-use Rattle.chains.specs.Promise.{Counts, answer_as, counted}
-use Rattle.chains.specs.declared.ChainsAnswer.{ChainsAnswer}
-use Rattle.chains.specs.declared.ChainsAnswer.TheVariants as said
+use Rattle.chains.specs.Promise.{counted}
+use Rattle.chains.specs.declared.Counts.{Counts}
+use Rattle.samples.specs.Answers.{answer_of}
 use Rattle.chains.proofs.chains.Kinds as kinds
 use Rattle.chains.proofs.chains.Reads as reads
 use Rattle.samples.specs.Outputs.{front}
 use Rattle.demands.specs.Done.{when_done}
+use Rattle.samples.specs.declared.refusals.Refusal.{Refusal}
 
 -- ---- what is demanded of a chain
 
@@ -60,7 +61,7 @@ pub record IsChain (xs : List Stream) (ks : List ℕ) : Type 0 where
 pub record Call : Type 1 where
   pub lifetimes : Lfts 5
   pub given : Dens lifetimes kinds.ps
-  pub answer : ChainsAnswer
+  pub answer : Result Counts Refusal
   pub left : AtExit (ended_of 5 kinds.ps kinds.r) lifetimes
   pub promised : reads.Post lifetimes given answer left
 
@@ -274,9 +275,9 @@ counted-both (done r) e = (r, refl, cc, cc)
 counted-both (refused number place) e = absurd (let z : ◌≡◌ {A = ℕ} 0 1 = cc in omega arith)
 
 -- THE LAW
-pub chains_done : (c : Call) {u v : ℕ} → c.answer ≡ said.Done u v → Reported c u v
+pub chains_done : (c : Call) {u v : ℕ} → c.answer ≡ Ok (record { upper = u; lower = v }) → Reported c u v
 unfolding chains_answer lower
-chains_done c {u} {v} e = go (counted-both (chains_answer es ns out_upper out_lower w) (sym (ap answer_as e) ∙ c.promised.said))
+chains_done c {u} {v} e = go (counted-both (chains_answer es ns out_upper out_lower w) (sym (ap answer_of e) ∙ c.promised.said))
   where
     es : List ℤ
     es = c.given.0.now

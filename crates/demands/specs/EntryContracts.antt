@@ -1,7 +1,7 @@
 -- The contract of each entry is the promise that its specs state, which cites the rules' answer: of what is given (a), what is answered (r), and what is left
 -- of all that is lent (s). A contract of several equations is their product. The C face and the program have theirs in a `Contracts` of their own, as no other
 -- crate can name their functions. Assumes nothing.
-use Rattle.std.specs.Prelude.{◌≡◌, refl, ℕ, length}
+use Rattle.std.specs.Prelude.{◌≡◌, refl, Bool, ℕ, ℤ, length, Result}
 use contract.Lifetimes.{Lfts}
 use denote.Triple.Clauses.{AtExit}
 use borrow.Fn.Kinds.{Dens, ended_of}
@@ -12,25 +12,17 @@ use Rattle.rules.specs.Door.{part, readings}
 use Rattle.rules.specs.Program.{printed}
 use Rattle.rules.specs.Entries.{ring_answer, join_answer, sum_answer, strongest_answer, cover_answer, hand_answer, hand_step_answer, hand_after, door_answer, door_output_after, taken_east, taken_north, record_answer, write_answer, counted, easts, norths}
 use Rattle.picker.specs.Promise.{PickPromise}
-use Rattle.picker.specs.declared.Picked.{Picked}
 use Rattle.chains.specs.Promise.{ChainsPromise}
-use Rattle.chains.specs.declared.ChainsAnswer.{ChainsAnswer}
 use Rattle.bridge.specs.Promise.{BridgePromise}
-use Rattle.bridge.specs.declared.BridgeAnswer.{BridgeAnswer}
 use Rattle.round.specs.Promise.{RoundPromise}
-use Rattle.round.specs.declared.RoundAnswer.{RoundAnswer}
 use Rattle.closing.specs.RingPromise.{Outcome}
-use Rattle.samples.specs.CountedAnswers.{counted_as}
-use Rattle.samples.specs.declared.answers.Counted.{Counted}
-use Rattle.envelope.specs.UseAnswers.{TurnPromise, strongest_as, covered_as}
-use Rattle.envelope.specs.declared.strongest.StrongestSet.{StrongestSet}
-use Rattle.envelope.specs.declared.cover.Covered.{Covered}
-use Rattle.hand.specs.HandAnswers.{hand_at, made_as, edge_as}
-use Rattle.hand.specs.declared.Made.{Made}
+use Rattle.samples.specs.Answers.{answer_as, answer_of}
+use Rattle.envelope.specs.UseAnswers.{TurnPromise, strongest_as}
+use Rattle.hand.specs.HandAnswers.{hand_at, edge_as}
 use Rattle.hand.specs.declared.Step.{Step}
 use Rattle.door.specs.DoorAnswers.{part_as, door_as}
 use Rattle.door.specs.declared.PartAnswer.{PartAnswer}
-use Rattle.door.specs.declared.ReadingsAnswer.{ReadingsAnswer}
+use Rattle.door.specs.declared.DoorRefusal.{DoorRefusal}
 use Rattle.text.specs.TextAnswers.{samples_answer}
 use Rattle.picker.proofs.pick.Kinds as pick-kinds
 use Rattle.picker.proofs.pick.Reads as pick-reads
@@ -70,74 +62,80 @@ use Rattle.text.proofs.printing.print_ring.Kinds as print-ring-kinds
 use Rattle.text.proofs.printing.print_ring.Reads as print-ring-reads
 use Rattle.text.proofs.printing.print_refusal.Kinds as print-refusal-kinds
 use Rattle.text.proofs.printing.print_refusal.Reads as print-refusal-reads
+use Rattle.samples.specs.declared.refusals.Refusal.{Refusal}
+use Rattle.envelope.specs.declared.strongest.Greatest.{Greatest}
+use Rattle.round.specs.declared.turn.Said.{Said}
+use Rattle.bridge.specs.declared.Ends.{Ends}
+use Rattle.chains.specs.declared.Counts.{Counts}
+use Rattle.hand.specs.declared.Hand.{Hand}
 
 pub record Contracts : Type 1 where
-  pub of_pick : (κs : Lfts 2) (a : Dens κs pick-kinds.ps) (r : Picked) (s : AtExit (ended_of 2 pick-kinds.ps pick-kinds.r) κs) →
+  pub of_pick : (κs : Lfts 2) (a : Dens κs pick-kinds.ps) (r : Result ℤ Refusal) (s : AtExit (ended_of 2 pick-kinds.ps pick-kinds.r) κs) →
       pick-reads.Post κs a r s ≡ PickPromise a.0.now a.1.0 a.1.1.0.now r s.1.1.0.now
-  pub of_chains : (κs : Lfts 5) (a : Dens κs chains-kinds.ps) (r : ChainsAnswer) (s : AtExit (ended_of 5 chains-kinds.ps chains-kinds.r) κs) →
+  pub of_chains : (κs : Lfts 5) (a : Dens κs chains-kinds.ps) (r : Result Counts Refusal) (s : AtExit (ended_of 5 chains-kinds.ps chains-kinds.r) κs) →
       chains-reads.Post κs a r s
       ≡ ChainsPromise a.0.now a.1.0.now a.1.1.0.now a.1.1.1.0.now a.1.1.1.1.0.now r
       s.1.1.0.now s.1.1.1.0.now s.1.1.1.1.0.now
-  pub of_bridge : (κs : Lfts 3) (a : Dens κs bridge-kinds.ps) (r : BridgeAnswer) (s : AtExit (ended_of 3 bridge-kinds.ps bridge-kinds.r) κs) →
+  pub of_bridge : (κs : Lfts 3) (a : Dens κs bridge-kinds.ps) (r : Result Ends Refusal) (s : AtExit (ended_of 3 bridge-kinds.ps bridge-kinds.r) κs) →
       bridge-reads.Post κs a r s ≡ BridgePromise a.0.now a.1.0.now a.1.1.0 a.1.1.1.0.now r s.1.1.1.0.now
-  pub of_round : (κs : Lfts 5) (a : Dens κs round-kinds.ps) (r : RoundAnswer) (s : AtExit (ended_of 5 round-kinds.ps round-kinds.r) κs) →
+  pub of_round : (κs : Lfts 5) (a : Dens κs round-kinds.ps) (r : Result Said Refusal) (s : AtExit (ended_of 5 round-kinds.ps round-kinds.r) κs) →
       round-reads.Post κs a r s
       ≡ RoundPromise a.0.now a.1.0.now a.1.1.0.now a.1.1.1.0 a.1.1.1.1.0.now a.1.1.1.1.1.0.now r
       s.1.1.1.1.0.now s.1.1.1.1.1.0.now
-  pub of_ring : (κs : Lfts 5) (a : Dens κs ring-kinds.ps) (r : Counted) (s : AtExit (ended_of 5 ring-kinds.ps ring-kinds.r) κs) →
+  pub of_ring : (κs : Lfts 5) (a : Dens κs ring-kinds.ps) (r : Result ℕ Refusal) (s : AtExit (ended_of 5 ring-kinds.ps ring-kinds.r) κs) →
       ring-reads.Post κs a r s
       ≡ Outcome (ring_answer a.0.now a.1.0.now a.1.1.0.now a.1.1.1.0.now a.1.1.1.1.0.now) r
       a.1.1.0.now s.1.1.0.now a.1.1.1.0.now s.1.1.1.0.now a.1.1.1.1.0.now s.1.1.1.1.0.now
-  pub of_join : (κs : Lfts 7) (a : Dens κs join-kinds.ps) (r : Counted) (s : AtExit (ended_of 7 join-kinds.ps join-kinds.r) κs) →
+  pub of_join : (κs : Lfts 7) (a : Dens κs join-kinds.ps) (r : Result ℕ Refusal) (s : AtExit (ended_of 7 join-kinds.ps join-kinds.r) κs) →
       join-reads.Post κs a r s
       ≡ Outcome
       (join_answer a.0.now a.1.0.now a.1.1.0.now a.1.1.1.0.now a.1.1.1.1.0.now a.1.1.1.1.1.0.now
       a.1.1.1.1.1.1.0.now) r
       a.1.1.1.1.0.now s.1.1.1.1.0.now a.1.1.1.1.1.0.now s.1.1.1.1.1.0.now
       a.1.1.1.1.1.1.0.now s.1.1.1.1.1.1.0.now
-  pub of_sum : (κs : Lfts 7) (a : Dens κs sum-kinds.ps) (r : Counted) (s : AtExit (ended_of 7 sum-kinds.ps sum-kinds.r) κs) →
+  pub of_sum : (κs : Lfts 7) (a : Dens κs sum-kinds.ps) (r : Result ℕ Refusal) (s : AtExit (ended_of 7 sum-kinds.ps sum-kinds.r) κs) →
       sum-reads.Post κs a r s
       ≡ Outcome
       (sum_answer a.0.now a.1.0.now a.1.1.0.now a.1.1.1.0.now a.1.1.1.1.0.now a.1.1.1.1.1.0.now
       a.1.1.1.1.1.1.0.now) r
       a.1.1.1.1.0.now s.1.1.1.1.0.now a.1.1.1.1.1.0.now s.1.1.1.1.1.0.now
       a.1.1.1.1.1.1.0.now s.1.1.1.1.1.1.0.now
-  pub of_turn_about : (κs : Lfts 4) (a : Dens κs turn-kinds.ps) (r : Counted) (s : AtExit (ended_of 4 turn-kinds.ps turn-kinds.r) κs) →
+  pub of_turn_about : (κs : Lfts 4) (a : Dens κs turn-kinds.ps) (r : Result ℕ Refusal) (s : AtExit (ended_of 4 turn-kinds.ps turn-kinds.r) κs) →
       turn-reads.Post κs a r s
       ≡ TurnPromise a.0.now a.1.0.now a.1.1.0.now a.1.1.1.0.now r s.1.1.0.now s.1.1.1.0.now
-  pub of_strongest : (κs : Lfts 2) (a : Dens κs strongest-kinds.ps) (r : StrongestSet) (s : AtExit (ended_of 2 strongest-kinds.ps strongest-kinds.r) κs) →
-      strongest-reads.Post κs a r s ≡ (strongest_as r ≡ strongest_answer a.0.now a.1.0.now a.1.1.0 a.1.1.1.0)
-  pub of_cover : (κs : Lfts 2) (a : Dens κs cover-kinds.ps) (r : Covered) (s : AtExit (ended_of 2 cover-kinds.ps cover-kinds.r) κs) →
-      cover-reads.Post κs a r s ≡ (covered_as r ≡ cover_answer a.0.now a.1.0.now a.1.1.0 a.1.1.1.0)
-  pub of_made_for : (κs : Lfts 0) (a : Dens κs made-kinds.ps) (r : Made) (s : AtExit (ended_of 0 made-kinds.ps made-kinds.r) κs) →
-      made_reads.Post κs a r s ≡ (made_as r ≡ hand_answer a.0)
+  pub of_strongest : (κs : Lfts 2) (a : Dens κs strongest-kinds.ps) (r : Result Greatest Refusal) (s : AtExit (ended_of 2 strongest-kinds.ps strongest-kinds.r) κs) →
+      strongest-reads.Post κs a r s ≡ (answer_as strongest_as r ≡ strongest_answer a.0.now a.1.0.now a.1.1.0 a.1.1.1.0)
+  pub of_cover : (κs : Lfts 2) (a : Dens κs cover-kinds.ps) (r : Result Bool Refusal) (s : AtExit (ended_of 2 cover-kinds.ps cover-kinds.r) κs) →
+      cover-reads.Post κs a r s ≡ (answer_of r ≡ cover_answer a.0.now a.1.0.now a.1.1.0 a.1.1.1.0)
+  pub of_made_for : (κs : Lfts 0) (a : Dens κs made-kinds.ps) (r : Result Hand Refusal) (s : AtExit (ended_of 0 made-kinds.ps made-kinds.r) κs) →
+      made_reads.Post κs a r s ≡ (answer_as hand_at r ≡ hand_answer a.0)
   pub of_step : (κs : Lfts 0) (a : Dens κs step-kinds.ps) (r : Step) (s : AtExit (ended_of 0 step-kinds.ps step-kinds.r) κs) →
       step-reads.Post κs a r s
-      ≡ ((edge_as r.edge ≡ hand_step_answer (hand_at a.0))
+      ≡ ((answer_as edge_as r.edge ≡ hand_step_answer (hand_at a.0))
       × (hand_at r.next ≡ hand_after (hand_step_answer (hand_at a.0)) (hand_at a.0)))
   pub of_part : (κs : Lfts 0) (a : Dens κs part-kinds.ps) (r : PartAnswer) (s : AtExit (ended_of 0 part-kinds.ps part-kinds.r) κs) →
       part-reads.Post κs a r s ≡ (part_as r ≡ part a.0)
   pub of_take_readings :
-      (κs : Lfts 4) (a : Dens κs readings-kinds.ps) (r : ReadingsAnswer) (s : AtExit (ended_of 4 readings-kinds.ps readings-kinds.r) κs) →
+      (κs : Lfts 4) (a : Dens κs readings-kinds.ps) (r : Result ℕ DoorRefusal) (s : AtExit (ended_of 4 readings-kinds.ps readings-kinds.r) κs) →
       let answer = door_answer a.0.now a.1.0.now a.1.1.0.now a.1.1.1.0.now in
       let read = readings 0 a.0.now a.1.0.now in
       readings-reads.Post κs a r s
       ≡ ((door_as r ≡ answer)
       × ((s.1.1.0.now ≡ door_output_after (taken_east read) answer a.1.1.0.now)
       × (s.1.1.1.0.now ≡ door_output_after (taken_north read) answer a.1.1.1.0.now)))
-  pub of_read_record : (κs : Lfts 3) (a : Dens κs record-kinds.ps) (r : Counted) (s : AtExit (ended_of 3 record-kinds.ps record-kinds.r) κs) →
+  pub of_read_record : (κs : Lfts 3) (a : Dens κs record-kinds.ps) (r : Result ℕ Refusal) (s : AtExit (ended_of 3 record-kinds.ps record-kinds.r) κs) →
       let answer = record_answer a.0.now a.1.0.now a.1.1.0.now in
       record-reads.Post κs a r s
-      ≡ ((counted_as r ≡ counted answer)
+      ≡ ((answer_of r ≡ counted answer)
       × ((s.1.0.now ≡ output_after easts answer a.1.0.now) × (s.1.1.0.now ≡ output_after norths answer a.1.1.0.now)))
-  pub of_write_record : (κs : Lfts 3) (a : Dens κs write-kinds.ps) (r : Counted) (s : AtExit (ended_of 3 write-kinds.ps write-kinds.r) κs) →
+  pub of_write_record : (κs : Lfts 3) (a : Dens κs write-kinds.ps) (r : Result ℕ Refusal) (s : AtExit (ended_of 3 write-kinds.ps write-kinds.r) κs) →
       let answer = write_answer a.0 a.1.0 a.1.1.0.now a.1.1.1.0.now a.1.1.1.1.0.now in
       write-reads.Post κs a r s
-      ≡ ((counted_as r ≡ counted answer) × (s.1.1.1.1.0.now ≡ output_after (λ bs. bs) answer a.1.1.1.1.0.now))
-  pub of_samples : (κs : Lfts 3) (a : Dens κs samples-kinds.ps) (r : Counted) (s : AtExit (ended_of 3 samples-kinds.ps samples-kinds.r) κs) →
+      ≡ ((answer_of r ≡ counted answer) × (s.1.1.1.1.0.now ≡ output_after (λ bs. bs) answer a.1.1.1.1.0.now))
+  pub of_samples : (κs : Lfts 3) (a : Dens κs samples-kinds.ps) (r : Result ℕ Refusal) (s : AtExit (ended_of 3 samples-kinds.ps samples-kinds.r) κs) →
       let answer = samples_answer a.0.now a.1.0.now a.1.1.0.now in
       samples-reads.Post κs a r s
-      ≡ ((counted_as r ≡ counted answer)
+      ≡ ((answer_of r ≡ counted answer)
       × ((s.1.0.now ≡ output_after easts answer a.1.0.now) × (s.1.1.0.now ≡ output_after norths answer a.1.1.0.now)))
   pub of_print_ring : (κs : Lfts 3) (a : Dens κs print-ring-kinds.ps) (r : ℕ) (s : AtExit (ended_of 3 print-ring-kinds.ps print-ring-kinds.r) κs) →
       let text = printed (done (streams a.0.now a.1.0.now)) in

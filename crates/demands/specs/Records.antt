@@ -1,6 +1,6 @@
 -- The record reader, over the promise of the entry: a call that is done leaves the going-to ring that the record means, an envelope, at the front of both outputs.
 -- A call is any that the entry's own promise allows. Assumes nothing.
-use Rattle.std.specs.Prelude.{◌≡◌, true, false, cond, List, map, ℕ, ◌≤◌, ℤ, length}
+use Rattle.std.specs.Prelude.{◌≡◌, true, false, cond, List, map, ℕ, ◌≤◌, ℤ, length, Result, Ok}
 use Rattle.std.proofs.Common.{sym, ap, ◌∙◌, arith, ltb-false}
 use contract.Lifetimes.{Lfts}
 use denote.Triple.Clauses.{AtExit}
@@ -14,18 +14,17 @@ use Rattle.rules.specs.Refusals.{done}
 use Rattle.rules.specs.Entries.{frame_tests, corner_tests, record_tests, record_answer}
 use Rattle.laws_refusals.specs.NoneHold.{none_either}
 use Rattle.laws_records.specs.InSense.{sense_near, sense-envelope, sense-length}
-use Rattle.samples.specs.CountedAnswers.{counted_as}
-use Rattle.samples.specs.declared.answers.Counted.{Counted}
-use Rattle.samples.specs.declared.answers.Counted.TheVariants as counts
+use Rattle.samples.specs.Answers.{answer_of}
 use Rattle.reader.proofs.read_record.Kinds as kinds
 use Rattle.reader.proofs.read_record.Reads as reads
 use Rattle.demands.specs.Done.{not_refused, Left, ring-left}
+use Rattle.samples.specs.declared.refusals.Refusal.{Refusal}
 
 -- a call of the reader
 pub record Reading : Type 1 where
   pub lifetimes : Lfts 3
   pub given : Dens lifetimes kinds.ps
-  pub answer : Counted
+  pub answer : Result ℕ Refusal
   pub left : AtExit (ended_of 3 kinds.ps kinds.r) lifetimes
   pub promised : reads.Post lifetimes given answer left
 
@@ -61,14 +60,14 @@ pub record Read-up (c : Reading) (n : ℕ) : Type 0 where
   pub ring-read : envelope (corners c) ≡ true
   pub left : Left (corners c) n (east_after c) (north_after c)
 
-pub reading_done : (c : Reading) {n : ℕ} → c.answer ≡ counts.Count n → Read-up c n
+pub reading_done : (c : Reading) {n : ℕ} → c.answer ≡ Ok n → Read-up c n
 unfolding record_answer
 reading_done c {n} e =
     let ts = record_tests (bytes c) (east_before c) (north_before c) in
     let s = sense (bytes c) in
     let r = stored (bytes c) in
     let d = ring-left ts (corners c) (east_before c) (north_before c)
-    (sym (ap counted_as e) ∙ c.promised.0)
+    (sym (ap answer_of e) ∙ c.promised.0)
     c.promised.1.0
     c.promised.1.1 in
     let tests = (none_either (frame_tests (bytes c)) (corner_tests s r (east_before c) (north_before c)) d.0).1 in

@@ -2,7 +2,7 @@
 -- turned about, the lower chain of the second is the upper chain of the first in reverse, number by number, and the upper chain of the second the lower
 -- chain of the first. For two calls of the ring the same holds of positions, both signs changed, and the second leaves what turning about leaves of the
 -- first's ring. A call is any that the entry's own promise allows. Assumes nothing.
-use Rattle.std.specs.Prelude.{◌≡◌, refl, List, [], ◌∷◌, map, reverse, ℕ, ℤ, neg_ℤ, length, take}
+use Rattle.std.specs.Prelude.{◌≡◌, refl, List, [], ◌∷◌, map, reverse, ℕ, ℤ, neg_ℤ, length, take, Ok}
 use Rattle.std.proofs.Common.{sym, ap, ap₂, ◌∙◌, subst, subst₂}
 use Rattle.std.proofs.lemmas.List.{length-reverse}
 use Rattle.rules.specs.Streams.{Stream, streams, turned}
@@ -10,8 +10,6 @@ use Rattle.rules.specs.Chain.{upper, lower, upper_numbers, lower_numbers}
 use Rattle.laws_outline.specs.Numbers.{lower-mirrored}
 use Rattle.laws_rings.specs.Rings.{upper_of_ring, lower_of_ring}
 use Rattle.laws_rings.specs.FromBehind.{upper-turned, lower-turned, upper-numbers-turned, lower-numbers-turned}
-use Rattle.chains.specs.declared.ChainsAnswer.TheVariants as said
-use Rattle.samples.specs.declared.answers.Counted.TheVariants as counts
 use Rattle.demands.specs.Done.{left-ring}
 use Rattle.demands.specs.Chains as chains
 use Rattle.demands.specs.Ringed as rings
@@ -35,10 +33,10 @@ about_streams {es} {ns} h = ap₂ streams h.easts h.norths ∙ streams_about es 
 -- ---- chains, number by number
 
 -- what a call that is done leaves, by the rules' numbers
-upper_left : (c : chains.Call) {u v : ℕ} → c.answer ≡ said.Done u v → take u (chains.upper_after c) ≡ upper_numbers (chains.samples c)
+upper_left : (c : chains.Call) {u v : ℕ} → c.answer ≡ Ok (record { upper = u; lower = v }) → take u (chains.upper_after c) ≡ upper_numbers (chains.samples c)
 upper_left c {u} e = chains.upper_alone (take u (chains.upper_after c)) (chains.chains_done c e).upper-chain
 
-lower_left : (c : chains.Call) {u v : ℕ} → c.answer ≡ said.Done u v → take v (chains.lower_after c) ≡ lower_numbers (chains.samples c)
+lower_left : (c : chains.Call) {u v : ℕ} → c.answer ≡ Ok (record { upper = u; lower = v }) → take v (chains.lower_after c) ≡ lower_numbers (chains.samples c)
 lower_left c {v = v} e =
     chains.upper_alone (take v (chains.lower_after c)) (chains.chains_done c e).lower-chain ∙ sym (lower-mirrored (chains.samples c))
 
@@ -50,7 +48,7 @@ pub record Changed-over (c : chains.Call) (u v : ℕ) (d : chains.Call) (u' v' :
   pub upper-chain : take u' (chains.upper_after d) ≡ reverse (take v (chains.lower_after c))
 
 -- THE LAW, of chains
-pub chains_about : (c d : chains.Call) {u v u' v' : ℕ} → c.answer ≡ said.Done u v → d.answer ≡ said.Done u' v'
+pub chains_about : (c d : chains.Call) {u v u' v' : ℕ} → c.answer ≡ Ok (record { upper = u; lower = v }) → d.answer ≡ Ok (record { upper = u'; lower = v' })
     → About (chains.east c) (chains.north c) (chains.east d) (chains.north d)
     → Changed-over c u v d u' v'
 chains_about c d {u} {v} e f h =
@@ -73,7 +71,7 @@ abbrev pub ring_of : rings.Ringing → ℕ → List Stream
 ring_of c n = streams (take n (rings.east_after c)) (take n (rings.north_after c))
 
 -- THE LAW, of rings: by their chains
-pub rings_about : (c d : rings.Ringing) {n m : ℕ} → c.answer ≡ counts.Count n → d.answer ≡ counts.Count m
+pub rings_about : (c d : rings.Ringing) {n m : ℕ} → c.answer ≡ Ok n → d.answer ≡ Ok m
     → About (rings.east c) (rings.north c) (rings.east d) (rings.north d)
     → (lower (ring_of d m) ≡ reverse (map turned (upper (ring_of c n)))) × (upper (ring_of d m) ≡ reverse (map turned (lower (ring_of c n))))
 rings_about c d e f h =
@@ -88,8 +86,8 @@ rings_about c d e f h =
     )
 
 -- and the second leaves what turning about leaves of the first's ring
-pub ring_turned_about : (c d : rings.Ringing) (t : turns.Turning) {n m k : ℕ} → c.answer ≡ counts.Count n → d.answer ≡ counts.Count m
-    → t.answer ≡ counts.Count k → About (rings.east c) (rings.north c) (rings.east d) (rings.north d)
+pub ring_turned_about : (c d : rings.Ringing) (t : turns.Turning) {n m k : ℕ} → c.answer ≡ Ok n → d.answer ≡ Ok m
+    → t.answer ≡ Ok k → About (rings.east c) (rings.north c) (rings.east d) (rings.north d)
     → turns.east t ≡ take n (rings.east_after c) → turns.north t ≡ take n (rings.north_after c)
     → (take m (rings.east_after d) ≡ take k (turns.east_after t)) × (take m (rings.north_after d) ≡ take k (turns.north_after t))
 ring_turned_about c d t {m = m} e f g h he hn =

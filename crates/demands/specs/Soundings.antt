@@ -2,7 +2,7 @@
 -- values come from the rules' table `soundings`, computed from the definitions; since the promises cite the same definitions the table holds of the entries, for
 -- outputs and scratch of any content that are long enough. That each entry's contract is the promise meant here stands in Contracts.
 -- Assumes nothing.
-use Rattle.std.specs.Prelude.{◌≡◌, refl, false, not, ◌||◌, List, [], ◌∷◌, ◌++◌, ℕ, ◌≤◌, ◌+◌, ◌*◌, ℤ, pos, negsuc, ltb, length, drop, replicate}
+use Rattle.std.specs.Prelude.{◌≡◌, refl, false, not, ◌||◌, Bool, List, [], ◌∷◌, ◌++◌, ℕ, ◌≤◌, ◌+◌, ◌*◌, ℤ, pos, negsuc, ltb, length, drop, replicate, Result, Ok, Err, true}
 use Rattle.std.proofs.Common.{sym, ap, ap₂, ◌∙◌, le-ltb}
 use Rattle.rules.specs.Lists.{those, some_of, best_from, best, written, zeros}
 use Rattle.rules.specs.Streams.{Stream, stream, streams, sample, within, beyond, same, side}
@@ -17,25 +17,20 @@ use Rattle.rules.specs.Soundings.{A_easts, A_norths, A_scratch, A_ring_easts, A_
 use Rattle.laws_rings.specs.Rings.{envelope-ring}
 use Rattle.laws_rounds.specs.StepsAtMiddle.{no_step_without_bridge}
 use Rattle.chains.specs.Promise as chains
-use Rattle.chains.specs.declared.ChainsAnswer.{ChainsAnswer}
-use Rattle.chains.specs.declared.ChainsAnswer.TheVariants as chains-said
 use Rattle.bridge.specs.Promise as bridge
-use Rattle.bridge.specs.declared.BridgeAnswer.{BridgeAnswer}
-use Rattle.bridge.specs.declared.BridgeAnswer.TheVariants as bridge-said
 use Rattle.round.specs.Promise as rounding
-use Rattle.round.specs.declared.RoundAnswer.{RoundAnswer}
-use Rattle.round.specs.declared.RoundAnswer.TheVariants as round-said
 use Rattle.closing.specs.RingPromise.{Outcome}
-use Rattle.samples.specs.CountedAnswers.{counted_injective}
-use Rattle.samples.specs.declared.answers.Counted.{Counted}
-use Rattle.samples.specs.declared.answers.Counted.TheVariants as counts
-use Rattle.envelope.specs.UseAnswers.{TurnPromise, strongest_as, covered_as}
-use Rattle.envelope.specs.declared.strongest.StrongestSet.{StrongestSet}
-use Rattle.envelope.specs.declared.strongest.StrongestSet.TheVariants as strongest
-use Rattle.envelope.specs.declared.cover.Covered.{Covered}
-use Rattle.envelope.specs.declared.cover.Covered.TheVariants as cover
+use Rattle.samples.specs.Answers.{answer_as, answer_of, answer_of_injective}
+use Rattle.envelope.specs.UseAnswers.{TurnPromise, strongest_as}
 use Rattle.demands.specs.Done.{when_done, not_refused}
-use Rattle.demands.specs.AnswerCases.{chains_done, bridge_found, bridge_refused, round_found, round-kept, strongest-greatest, covered_yes}
+use Rattle.demands.specs.AnswerCases.{answer_done, answer_refused, bridge_found, round_found, round-kept, strongest-greatest}
+use Rattle.samples.specs.declared.refusals.Refusal.{Refusal}
+use Rattle.samples.specs.declared.refusals.Reason.TheVariants.{NotSpanned}
+use Rattle.round.specs.declared.turn.Said.{Said as Answered}
+use Rattle.round.specs.declared.turn.Said.TheVariants as round-said
+use Rattle.envelope.specs.declared.strongest.Greatest.{Greatest}
+use Rattle.bridge.specs.declared.Ends.{Ends}
+use Rattle.chains.specs.declared.Counts.{Counts}
 
 -- ---- any outcome that a promise allows: what is lent, with room for the result and 16c + 64 words of scratch, what is answered and what is left
 
@@ -47,7 +42,7 @@ pub record Chains-of-A : Type 0 where
   pub upper_room : 3 ≤ length upper
   pub lower_room : 2 ≤ length lower
   pub scratch_room : 176 ≤ length scratch
-  pub answer : ChainsAnswer
+  pub answer : Result Counts Refusal
   pub upper_left : List ℕ
   pub lower_left : List ℕ
   pub scratch_left : List ℕ
@@ -57,7 +52,7 @@ pub record Chains-of-A : Type 0 where
 pub record Bridge-of-A (a : ℤ) : Type 0 where
   pub scratch : List ℕ
   pub scratch_room : 176 ≤ length scratch
-  pub answer : BridgeAnswer
+  pub answer : Result Ends Refusal
   pub scratch_left : List ℕ
   pub promised : bridge.BridgePromise A_easts A_norths a scratch answer scratch_left
 
@@ -67,7 +62,7 @@ pub record Round-of-A (list : List ℕ) (a : ℤ) (room : ℕ) : Type 0 where
   pub scratch : List ℕ
   pub output_room : room ≤ length output
   pub scratch_room : 16 * length list + 64 ≤ length scratch
-  pub answer : RoundAnswer
+  pub answer : Result Answered Refusal
   pub output_left : List ℕ
   pub scratch_left : List ℕ
   pub promised : rounding.RoundPromise A_easts A_norths list a output scratch answer output_left scratch_left
@@ -80,7 +75,7 @@ pub record Ring-of (answers : List ℤ → List ℤ → List ℕ → Answer (Lis
   pub east_room : room ≤ length east
   pub north_room : room ≤ length north
   pub scratch_room : words ≤ length scratch
-  pub answer : Counted
+  pub answer : Result ℕ Refusal
   pub east-left : List ℤ
   pub north-left : List ℤ
   pub scratch_left : List ℕ
@@ -92,20 +87,20 @@ pub record Turn-of (es ns : List ℤ) (room : ℕ) : Type 0 where
   pub north : List ℤ
   pub east_room : room ≤ length east
   pub north_room : room ≤ length north
-  pub answer : Counted
+  pub answer : Result ℕ Refusal
   pub east-left : List ℤ
   pub north-left : List ℤ
   pub promised : TurnPromise es ns east north answer east-left north-left
 
 -- of the strongest set on a course
 pub record Strongest-of (es ns : List ℤ) (x y : ℤ) : Type 0 where
-  pub answer : StrongestSet
-  pub promised : strongest_as answer ≡ strongest_answer es ns x y
+  pub answer : Result Greatest Refusal
+  pub promised : answer_as strongest_as answer ≡ strongest_answer es ns x y
 
 -- of the cover test
 pub record Cover-of (es ns : List ℤ) (x y : ℤ) : Type 0 where
-  pub answer : Covered
-  pub promised : covered_as answer ≡ cover_answer es ns x y
+  pub answer : Result Bool Refusal
+  pub promised : answer_of answer ≡ cover_answer es ns x y
 
 -- ---- the rings of P9 and P10, as two lists
 
@@ -130,28 +125,28 @@ three_norths = pos 0 ∷ pos 5 ∷ pos 0 ∷ []
 -- ---- THE TABLE (negsuc n is -(n + 1))
 
 pub record Entries-sound : Type 0 where
-  pub P1 : (c : Chains-of-A) → (c.answer ≡ chains-said.Done 3 2) × (c.upper_left ≡ 3 ∷ 5 ∷ 2 ∷ drop 3 c.upper) × (c.scratch_left ≡ zeros c.scratch)
-  pub P2 : (c : Chains-of-A) → (c.answer ≡ chains-said.Done 3 2) × (c.lower_left ≡ 0 ∷ 1 ∷ drop 2 c.lower) × (c.scratch_left ≡ zeros c.scratch)
-  pub P3 : (c : Bridge-of-A (pos 2)) → (c.answer ≡ bridge-said.Found 5 2) × (c.scratch_left ≡ zeros c.scratch)
-  pub P4 : (c : Bridge-of-A (pos 1)) → (c.answer ≡ bridge-said.Found 3 5) × (c.scratch_left ≡ zeros c.scratch)
-  pub P5 : (c : Bridge-of-A (pos 4)) → (c.answer ≡ bridge-said.Refused 6 0) × (c.scratch_left ≡ c.scratch)
+  pub P1 : (c : Chains-of-A) → (c.answer ≡ Ok (record { upper = 3; lower = 2 })) × (c.upper_left ≡ 3 ∷ 5 ∷ 2 ∷ drop 3 c.upper) × (c.scratch_left ≡ zeros c.scratch)
+  pub P2 : (c : Chains-of-A) → (c.answer ≡ Ok (record { upper = 3; lower = 2 })) × (c.lower_left ≡ 0 ∷ 1 ∷ drop 2 c.lower) × (c.scratch_left ≡ zeros c.scratch)
+  pub P3 : (c : Bridge-of-A (pos 2)) → (c.answer ≡ Ok (record { left = 5; right = 2 })) × (c.scratch_left ≡ zeros c.scratch)
+  pub P4 : (c : Bridge-of-A (pos 1)) → (c.answer ≡ Ok (record { left = 3; right = 5 })) × (c.scratch_left ≡ zeros c.scratch)
+  pub P5 : (c : Bridge-of-A (pos 4)) → (c.answer ≡ Err (record { reason = NotSpanned; place = 0 })) × (c.scratch_left ≡ c.scratch)
   pub P6 : (c : Round-of-A (3 ∷ 4 ∷ 5 ∷ 2 ∷ []) (pos 1) 2) →
-      (c.answer ≡ round-said.Kept 2) × (c.output_left ≡ 3 ∷ 5 ∷ drop 2 c.output) × (c.scratch_left ≡ zeros c.scratch)
+      (c.answer ≡ Ok (round-said.Kept 2)) × (c.output_left ≡ 3 ∷ 5 ∷ drop 2 c.output) × (c.scratch_left ≡ zeros c.scratch)
   pub P7 : (c : Round-of-A (3 ∷ 4 ∷ 5 ∷ 2 ∷ []) (pos 2) 0) →
-      (c.answer ≡ round-said.Found 5 2) × (c.output_left ≡ c.output) × (c.scratch_left ≡ zeros c.scratch)
+      (c.answer ≡ Ok (round-said.Found 5 2)) × (c.output_left ≡ c.output) × (c.scratch_left ≡ zeros c.scratch)
   pub P8 : (c : Round-of-A (3 ∷ 0 ∷ 1 ∷ 2 ∷ []) (pos 2) 2) →
-      (c.answer ≡ round-said.Kept 2) × (c.output_left ≡ 3 ∷ 2 ∷ drop 2 c.output) × (c.scratch_left ≡ zeros c.scratch)
+      (c.answer ≡ Ok (round-said.Kept 2)) × (c.output_left ≡ 3 ∷ 2 ∷ drop 2 c.output) × (c.scratch_left ≡ zeros c.scratch)
   pub P9 : (c : Ring-of (join_answer tall_easts tall_norths flat_easts flat_norths) 3 128) →
-      (c.answer ≡ counts.Count 3)
+      (c.answer ≡ Ok 3)
       × (c.east-left ≡ pos 0 ∷ pos 2 ∷ pos 4 ∷ drop 3 c.east)
       × (c.north-left ≡ pos 0 ∷ pos 5 ∷ pos 0 ∷ drop 3 c.north)
       × (c.scratch_left ≡ zeros c.scratch)
   pub P10 : (c : Turn-of three_easts three_norths 3) →
-      (c.answer ≡ counts.Count 3)
+      (c.answer ≡ Ok 3)
       × (c.east-left ≡ negsuc 3 ∷ pos 0 ∷ negsuc 1 ∷ drop 3 c.east)
       × (c.north-left ≡ pos 0 ∷ pos 0 ∷ negsuc 4 ∷ drop 3 c.north)
-  pub P11 : (c : Strongest-of A_ring_easts A_ring_norths (negsuc 0) (pos 1)) → c.answer ≡ strongest.Greatest (pos 3) 0
-  pub P12 : (c : Cover-of A_ring_easts A_ring_norths (pos 2) (pos 1)) → c.answer ≡ cover.Yes
+  pub P11 : (c : Strongest-of A_ring_easts A_ring_norths (negsuc 0) (pos 1)) → c.answer ≡ Ok (record { set = (pos 3); place = 0 })
+  pub P12 : (c : Cover-of A_ring_easts A_ring_norths (pos 2) (pos 1)) → c.answer ≡ Ok true
 
 -- ---- the answers, for any outputs and scratch that are long enough
 
@@ -244,26 +239,26 @@ three-turned east north h k =
 -- ---- the proof
 
 chains_of : (c : Chains-of-A) →
-    (c.answer ≡ chains-said.Done 3 2)
+    (c.answer ≡ Ok (record { upper = 3; lower = 2 }))
     × (c.upper_left ≡ 3 ∷ 5 ∷ 2 ∷ drop 3 c.upper)
     × (c.lower_left ≡ 0 ∷ 1 ∷ drop 2 c.lower)
     × (c.scratch_left ≡ zeros c.scratch)
 chains_of c =
     let e = chains_A c.upper c.lower c.scratch c.upper_room c.lower_room c.scratch_room in (
-      chains_done c.answer (c.promised.said ∙ ap chains.counted e),
+      answer_done c.answer (c.promised.said ∙ ap chains.counted e),
       c.promised.upper_is ∙ ap (λ (t : Answer Chains). output_after (λ s. s.upper) t c.upper) e,
       c.promised.lower-is ∙ ap (λ (t : Answer Chains). output_after (λ s. s.lower) t c.lower) e,
       c.promised.scratch-is ∙ ap (λ (t : Answer Chains). scratch_after t c.scratch) e,
     )
 
 bridge_of : {a : ℤ} (c : Bridge-of-A a) {answer : Answer (Bridge ℕ)} → bridge_answer A_easts A_norths a A_scratch ≡ answer →
-    (bridge.answer_as c.answer ≡ answer) × (c.scratch_left ≡ scratch_after answer c.scratch)
+    (answer_as bridge.ends_of c.answer ≡ answer) × (c.scratch_left ≡ scratch_after answer c.scratch)
 bridge_of {a} c e =
     let h = bridge-A a e c.scratch c.scratch_room in
     (c.promised.answer ∙ h, c.promised.scratch-is ∙ ap (λ (t : Answer (Bridge ℕ)). scratch_after t c.scratch) h)
 
 round_of : {list : List ℕ} {a : ℤ} {room : ℕ} (c : Round-of-A list a room) {said : Said ℕ} → A_round list a ≡ done said → length (kept_list said) ≡ room →
-    (rounding.answer_as c.answer ≡ done (rounding.told said))
+    (answer_as rounding.told_by c.answer ≡ done (rounding.told said))
     × (c.output_left ≡ written (kept_list said) c.output)
     × (c.scratch_left ≡ zeros c.scratch)
 round_of {list} {a} c {said} e h =
@@ -275,12 +270,12 @@ round_of {list} {a} c {said} e h =
 
 ring_of : {answers : List ℤ → List ℤ → List ℕ → Answer (List Stream)} {room words : ℕ} (c : Ring-of answers room words) {r : List Stream} →
     answers c.east c.north c.scratch ≡ done r →
-    (c.answer ≡ counts.Count (length r))
+    (c.answer ≡ Ok (length r))
     × (c.east-left ≡ written (easts r) c.east)
     × (c.north-left ≡ written (norths r) c.north)
     × (c.scratch_left ≡ zeros c.scratch)
 ring_of c {r} e = (
-  counted_injective c.answer (counts.Count (length r)) (c.promised.says ∙ ap counted e),
+  answer_of_injective c.answer (Ok (length r)) (c.promised.says ∙ ap counted e),
   c.promised.east_after ∙ ap (λ (t : Answer (List Stream)). output_after easts t c.east) e,
   c.promised.north_after ∙ ap (λ (t : Answer (List Stream)). output_after norths t c.north) e,
   c.promised.scratch-is ∙ ap (λ (t : Answer (List Stream)). scratch_after t c.scratch) e,
@@ -293,24 +288,24 @@ entries_sound = record {
   P2 = λ c. let o = chains_of c in (o.0, o.2, o.3);
   P3 = λ c. let o = bridge_of c soundings.P3 in (bridge_found c.answer o.0, o.1);
   P4 = λ c. let o = bridge_of c soundings.P4 in (bridge_found c.answer o.0, o.1);
-  P5 = λ c. let o = bridge_of c soundings.P5 in (bridge_refused c.answer o.0, o.1);
+  P5 = λ c. let o = bridge_of c soundings.P5 in (answer_refused bridge.ends_of c.answer NotSpanned o.0, o.1);
   P6 = λ c. let o = round_of c soundings.P6 refl in (round-kept c.answer o.0, o.1, o.2);
   P7 = λ c. let o = round_of c soundings.P7 refl in (round_found c.answer o.0, o.1, o.2);
   P8 = λ c. let o = round_of c soundings.P8 refl in (round-kept c.answer o.0, o.1, o.2);
   P9 = λ c. ring_of c (join-three c.east c.north c.scratch c.east_room c.north_room c.scratch_room);
   P10 = λ c.
       let e = three-turned c.east c.north c.east_room c.north_room in (
-        counted_injective c.answer (counts.Count 3) (c.promised.answer ∙ ap counted e),
+        answer_of_injective c.answer (Ok 3) (c.promised.answer ∙ ap counted e),
         c.promised.east_after ∙ ap (λ (t : Answer (List Stream)). output_after easts t c.east) e,
         c.promised.north_after ∙ ap (λ (t : Answer (List Stream)). output_after norths t c.north) e,
       );
   P11 = λ c. strongest-greatest c.answer (c.promised ∙ soundings.P11);
-  P12 = λ c. covered_yes c.answer (c.promised ∙ soundings.P12);
+  P12 = λ c. answer_done c.answer (c.promised ∙ soundings.P12);
 }
 
 -- the ring of A, off which P11 and P12 are read
 pub A-ring-written : (c : Ring-of (ring_answer A_easts A_norths) 5 176) →
-    (c.answer ≡ counts.Count 5)
+    (c.answer ≡ Ok 5)
     × (c.east-left ≡ pos 0 ∷ pos 2 ∷ pos 4 ∷ pos 4 ∷ pos 0 ∷ drop 5 c.east)
     × (c.north-left ≡ pos 3 ∷ pos 5 ∷ pos 3 ∷ pos 0 ∷ pos 0 ∷ drop 5 c.north)
     × (c.scratch_left ≡ zeros c.scratch)
@@ -318,5 +313,5 @@ unfolding A_ring
 A-ring-written c = ring_of c (ring-A c.east c.north c.scratch c.east_room c.north_room c.scratch_room)
 
 -- (0,1), on the outline of A, is covered
-pub A_outline_covered : (c : Cover-of A_ring_easts A_ring_norths (pos 0) (pos 1)) → c.answer ≡ cover.Yes
-A_outline_covered c = covered_yes c.answer (c.promised ∙ outlines.on_A)
+pub A_outline_covered : (c : Cover-of A_ring_easts A_ring_norths (pos 0) (pos 1)) → c.answer ≡ Ok true
+A_outline_covered c = answer_done c.answer (c.promised ∙ outlines.on_A)

@@ -1,6 +1,6 @@
 -- The strongest set, over the promise of the entry: read off a ring, it is the strongest over every stream behind the ring; and on one course the strongest set
 -- of a sum is the sum of the two strongest sets. A call is any that the entry's own promise allows. Assumes nothing.
-use Rattle.std.specs.Prelude.{◌≡◌, refl, ◌&&◌, ℕ, ℤ, pos, ◌+ℤ◌, eqb, ◌≤ℤ◌, length}
+use Rattle.std.specs.Prelude.{◌≡◌, refl, ◌&&◌, ℕ, ℤ, pos, ◌+ℤ◌, eqb, ◌≤ℤ◌, length, Result, Ok}
 use Rattle.std.proofs.Common.{sym, ap, ap₂, ◌∙◌, subst, arith, eqb-true}
 use mathlib.Core.List.{List, [], ◌∷◌, ◌++◌, Memᴰ}
 use contract.Lifetimes.{Lfts}
@@ -17,17 +17,18 @@ use Rattle.laws_rings.specs.Strongest as rings
 use Rattle.laws_sums.specs.Sums.{sum-strongest}
 use Rattle.samples.specs.Samples.{streams-length}
 use Rattle.envelope.specs.UseAnswers.{strongest_as}
-use Rattle.envelope.specs.declared.strongest.StrongestSet.{StrongestSet}
-use Rattle.envelope.specs.declared.strongest.StrongestSet.TheVariants as said
+use Rattle.samples.specs.Answers.{answer_as}
 use Rattle.envelope.proofs.strongest.strongest.Kinds as kinds
 use Rattle.envelope.proofs.strongest.strongest.Reads as reads
 use Rattle.demands.specs.Done.{when_done}
+use Rattle.samples.specs.declared.refusals.Refusal.{Refusal}
+use Rattle.envelope.specs.declared.strongest.Greatest.{Greatest}
 
 -- a call of strongest set
 pub record Call : Type 1 where
   pub lifetimes : Lfts 2
   pub given : Dens lifetimes kinds.ps
-  pub answer : StrongestSet
+  pub answer : Result Greatest Refusal
   pub left : AtExit (ended_of 2 kinds.ps kinds.r) lifetimes
   pub promised : reads.Post lifetimes given answer left
 
@@ -62,7 +63,7 @@ over-corners [] x y f e = absurd (f refl)
 over-corners (p ∷ ps) x y f e = (p, ps, refl, ap (λ (t : Strongest). t.set) e)
 
 -- what a call that is not refused read off
-says : (c : Call) {z : ℤ} {i : ℕ} → c.answer ≡ said.Greatest z i →
+says : (c : Call) {z : ℤ} {i : ℕ} → c.answer ≡ Ok (record { set = z; place = i }) →
     (p : Stream) × (ps : List Stream) × (corners c ≡ p ∷ ps) × (strongest (x c) (y c) p ps ≡ z)
 unfolding strongest_answer
 says c e =
@@ -74,7 +75,7 @@ says c e =
     ∷ test 11 0 (eqZ (x c) (pos 0) && eqZ (y c) (pos 0))
     ∷ []))
     (strongest_of (x c) (y c) (corners c))
-    (sym c.promised ∙ ap strongest_as e) in
+    (sym c.promised ∙ ap (answer_as strongest_as) e) in
     let even = eqb-true (length (east c)) (length (north c)) (not-false _ w.0.0) in
     let some = eqb-false (length (east c)) 0 w.0.1.1.1.1.1.0 in
     over-corners (corners c) (x c) (y c) (λ h. some (sym (streams-length (east c) (north c) even) ∙ h)) w.1
@@ -90,11 +91,11 @@ over-behind c {z} p ps (q ∷ qs) h e =
     }
 
 -- THE LAW
-pub strongest-behind : (c : Call) {z : ℤ} {i : ℕ} → c.answer ≡ said.Greatest z i → (xs : List Stream) → ring xs ≡ corners c → Strongest-over c z xs
+pub strongest-behind : (c : Call) {z : ℤ} {i : ℕ} → c.answer ≡ Ok (record { set = z; place = i }) → (xs : List Stream) → ring xs ≡ corners c → Strongest-over c z xs
 strongest-behind c e xs h = let (p, ps, r, k) = says c e in over-behind c p ps xs (h ∙ r) k
 
 -- THE LAW, of a sum: of three calls on one course, the third on the sum of the others' rings, the third's set is the sum of the others'
-pub strongest-added : (a b c : Call) {z w v : ℤ} {i j k : ℕ} → a.answer ≡ said.Greatest z i → b.answer ≡ said.Greatest w j → c.answer ≡ said.Greatest v k
+pub strongest-added : (a b c : Call) {z w v : ℤ} {i j k : ℕ} → a.answer ≡ Ok (record { set = z; place = i }) → b.answer ≡ Ok (record { set = w; place = j }) → c.answer ≡ Ok (record { set = v; place = k })
     → course a ≡ course c → course b ≡ course c → sum (corners a) (corners b) ≡ corners c → v ≡ z +ℤ w
 strongest-added a b c e f g h l m =
     let (p, ps, r, at_a) = says a e in

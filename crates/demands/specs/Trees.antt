@@ -3,7 +3,7 @@
 -- about, and of one read from a coming-from record, those behind it with both signs changed. So a tree may be rearranged anywhere and leaves the same lists: joins and sums in any order and grouping, repeats
 -- and empty envelopes joined; adding spreads over joining, and turning about over both. On every course the strongest set of a sum is the sum of the two strongest
 -- sets. A call is any that the entry's own promise allows. Assumes nothing.
-use Rattle.std.specs.Prelude.{◌≡◌, refl, cond, ◌↔◌, ℕ, ℤ, ◌+ℤ◌, length, take}
+use Rattle.std.specs.Prelude.{◌≡◌, refl, cond, ◌↔◌, ℕ, ℤ, ◌+ℤ◌, length, take, Ok}
 use Rattle.std.proofs.Common.{sym, ap, ap₂, ◌∙◌, subst, subst₂}
 use mathlib.Core.List.{List, [], ◌++◌, map, map-append, append-nil, append_assoc, Memᴰ}
 use Rattle.rules.specs.Streams.{Stream, streams, turned}
@@ -21,8 +21,6 @@ use Rattle.laws_rings.specs.Turning.{turn-ring}
 use Rattle.laws_sums.specs.Sums as adds
 use Rattle.laws_records.specs.InSense.{sense-ring}
 use Rattle.samples.specs.Samples.{streams-easts, streams-norths}
-use Rattle.samples.specs.declared.answers.Counted.TheVariants as counts
-use Rattle.envelope.specs.declared.strongest.StrongestSet.TheVariants as said
 use Rattle.demands.specs.Done.{Left, left_even, left-ring}
 use Rattle.demands.specs.Ringed as rings
 use Rattle.demands.specs.Records as records
@@ -35,19 +33,19 @@ use Rattle.demands.specs.Strongest as strongest
 -- a ring that comes of calls that are done, and all streams behind it: the ring of samples, a record that was read, of whatever streams its corners are the ring, two
 -- rings joined, two added, or one turned about
 pub data Made : List Stream → List ℤ → List ℤ → Type 1 where
-  ringed_by : (c : rings.Ringing) {n : ℕ} → c.answer ≡ counts.Count n
+  ringed_by : (c : rings.Ringing) {n : ℕ} → c.answer ≡ Ok n
       → Made (rings.samples c) (take n (rings.east_after c)) (take n (rings.north_after c))
-  read_by : (xs : List Stream) (c : records.Reading) {n : ℕ} → c.answer ≡ counts.Count n → stored (records.bytes c) ≡ ring xs
+  read_by : (xs : List Stream) (c : records.Reading) {n : ℕ} → c.answer ≡ Ok n → stored (records.bytes c) ≡ ring xs
       → Made (records.as_meant c xs) (take n (records.east_after c)) (take n (records.north_after c))
-  joined_by : {xs ys : List Stream} (c : Joining) {n : ℕ} → c.answer ≡ counts.Count n → Made xs (east c) (north c) → Made ys (east2 c) (north2 c)
+  joined_by : {xs ys : List Stream} (c : Joining) {n : ℕ} → c.answer ≡ Ok n → Made xs (east c) (north c) → Made ys (east2 c) (north2 c)
       → Made (xs ++ ys) (take n (east_after c)) (take n (north_after c))
-  added_by : {xs ys : List Stream} (c : Adding) {n : ℕ} → c.answer ≡ counts.Count n → Made xs (east c) (north c) → Made ys (east2 c) (north2 c)
+  added_by : {xs ys : List Stream} (c : Adding) {n : ℕ} → c.answer ≡ Ok n → Made xs (east c) (north c) → Made ys (east2 c) (north2 c)
       → Made (sums xs ys) (take n (east_after c)) (take n (north_after c))
-  turned_by : {xs : List Stream} (c : turns.Turning) {n : ℕ} → c.answer ≡ counts.Count n → Made xs (turns.east c) (turns.north c)
+  turned_by : {xs : List Stream} (c : turns.Turning) {n : ℕ} → c.answer ≡ Ok n → Made xs (turns.east c) (turns.north c)
       → Made (map turned xs) (take n (turns.east_after c)) (take n (turns.north_after c))
 
 -- such streams are always the corners as stored
-pub read-stored : (c : records.Reading) {n : ℕ} → c.answer ≡ counts.Count n
+pub read-stored : (c : records.Reading) {n : ℕ} → c.answer ≡ Ok n
     → Made (records.as_meant c (stored (records.bytes c))) (take n (records.east_after c)) (take n (records.north_after c))
 read-stored c e =
     let xs = stored (records.bytes c) in
@@ -88,8 +86,8 @@ pub made_same : {xs ys : List Stream} {es ns fs ms : List ℤ} → Made xs es ns
 made_same a b h = parts_only (made a) (made b) (ring_members (λ s. (h s).0) (λ s. (h s).1))
 
 -- THE LAW: a ring read from a coming-from record joins as the envelope of its streams turned about
-pub read-turned : (xs : List Stream) {ys : List Stream} (c : records.Reading) {n : ℕ} → c.answer ≡ counts.Count n → sense (records.bytes c) ≡ 1
-    → stored (records.bytes c) ≡ ring xs → (d : Joining) {m : ℕ} → d.answer ≡ counts.Count m → east d ≡ take n (records.east_after c)
+pub read-turned : (xs : List Stream) {ys : List Stream} (c : records.Reading) {n : ℕ} → c.answer ≡ Ok n → sense (records.bytes c) ≡ 1
+    → stored (records.bytes c) ≡ ring xs → (d : Joining) {m : ℕ} → d.answer ≡ Ok m → east d ≡ take n (records.east_after c)
     → north d ≡ take n (records.north_after c) → Made ys (east2 d) (north2 d)
     → streams (take m (east_after d)) (take m (north_after d)) ≡ ring (map turned xs ++ ys)
 read-turned xs c {n} e from h d f he hn b =
@@ -169,8 +167,8 @@ made_empty a h = parts_only (made a) (record { even = refl; ring-is = refl }) (o
 
 -- THE LAW: of three calls of strongest set on one course, the third on a sum of the others' rings, the third's set is the sum of the others', whatever calls the
 -- three rings come of
-pub made_strongest : (a b c : strongest.Call) {z w v : ℤ} {i j k : ℕ} → a.answer ≡ said.Greatest z i → b.answer ≡ said.Greatest w j
-    → c.answer ≡ said.Greatest v k → strongest.course a ≡ strongest.course c → strongest.course b ≡ strongest.course c → {xs ys : List Stream}
+pub made_strongest : (a b c : strongest.Call) {z w v : ℤ} {i j k : ℕ} → a.answer ≡ Ok (record { set = z; place = i }) → b.answer ≡ Ok (record { set = w; place = j })
+    → c.answer ≡ Ok (record { set = v; place = k }) → strongest.course a ≡ strongest.course c → strongest.course b ≡ strongest.course c → {xs ys : List Stream}
     → Made xs (strongest.east a) (strongest.north a) → Made ys (strongest.east b) (strongest.north b)
     → Made (sums xs ys) (strongest.east c) (strongest.north c) → v ≡ z +ℤ w
 made_strongest a b c e f g h l {xs} {ys} p q r =

@@ -1,6 +1,6 @@
 -- The entries that take two rings and write one, join and sum: a call, what it is given and leaves, and what it did where it is done. Both take the same lists
 -- and make the same tests of them; what a contract says of a call is left open here. Assumes nothing.
-use Rattle.std.specs.Prelude.{◌≡◌, true, List, ◌++◌, ℕ, ℤ, length}
+use Rattle.std.specs.Prelude.{◌≡◌, true, List, ◌++◌, ℕ, ℤ, length, Result, Ok}
 use Rattle.std.proofs.Common.{sym, ap, ◌∙◌, eqb-true}
 use contract.Lifetimes.{Lfts}
 use denote.Triple.Clauses.{AtExit}
@@ -10,22 +10,21 @@ use Rattle.rules.specs.Streams.{Stream, streams}
 use Rattle.rules.specs.Use.{envelope}
 use Rattle.rules.specs.Refusals.{Test, unless}
 use Rattle.rules.specs.Entries.{two_ring_tests}
-use Rattle.samples.specs.CountedAnswers.{counted_as}
-use Rattle.samples.specs.declared.answers.Counted.{Counted}
-use Rattle.samples.specs.declared.answers.Counted.TheVariants as counts
+use Rattle.samples.specs.Answers.{answer_of}
 use Rattle.closing.specs.RingPromise.{Outcome}
 use Rattle.join.proofs.join.Kinds as kinds
 use Rattle.demands.specs.Done.{Left, ring-left}
+use Rattle.samples.specs.declared.refusals.Refusal.{Refusal}
 
 -- what a contract says of the arguments, the answer and what is left
 abbrev pub Contract : Type 1
-Contract = (κs : Lfts 7) → Dens κs kinds.ps → Counted → AtExit (ended_of 7 kinds.ps kinds.r) κs → Type 0
+Contract = (κs : Lfts 7) → Dens κs kinds.ps → Result ℕ Refusal → AtExit (ended_of 7 kinds.ps kinds.r) κs → Type 0
 
 -- a call that it allows
 pub record Call (post : Contract) : Type 1 where
   pub lifetimes : Lfts 7
   pub given : Dens lifetimes kinds.ps
-  pub answer : Counted
+  pub answer : Result ℕ Refusal
   pub left : AtExit (ended_of 7 kinds.ps kinds.r) lifetimes
   pub promised : post lifetimes given answer left
 
@@ -81,14 +80,14 @@ module _ {post : Contract} where
     pub ring2_given : envelope (second c) ≡ true
     pub left : Left r n (east_after c) (north_after c)
 
-  pub when_answered : (c : Call post) (own : List Test) (r : List Stream) → Answers c own r → {n : ℕ} → c.answer ≡ counts.Count n → Done c r n
+  pub when_answered : (c : Call post) (own : List Test) (r : List Stream) → Answers c own r → {n : ℕ} → c.answer ≡ Ok n → Done c r n
   when_answered c own r o e =
       let d = ring-left
       (two_ring_tests (east c) (north c) (east2 c) (north2 c) (scratch c) ++ own)
       r
       (east_before c)
       (north_before c)
-      (sym (ap counted_as e) ∙ o.says)
+      (sym (ap answer_of e) ∙ o.says)
       o.east_after
       o.north_after in
       record {

@@ -2,7 +2,7 @@
 -- record of its ring, an envelope, at the front of the output. Wherever neither call is refused, reading what was written gives the same ring, and writing what was
 -- read in its version and sense the same bytes; so a ring has one record for each version and sense, and a record one ring. A call is any that the entry's own
 -- promise allows. Assumes nothing.
-use Rattle.std.specs.Prelude.{◌≡◌, true, ℕ, ◌≤◌, ℤ, take}
+use Rattle.std.specs.Prelude.{◌≡◌, true, ℕ, ◌≤◌, ℤ, take, Result, Ok}
 use Rattle.std.proofs.Math.Path.{sym, ap, subst}
 use Rattle.std.proofs.Common.{ap₂, ◌∙◌, arith, eqb-true, ltb-false, eq-eqb, le-ltb}
 use Rattle.std.proofs.Math.Bool.{false, not}
@@ -25,20 +25,19 @@ use Rattle.laws_records.specs.Layout.{Bytes}
 use Rattle.laws_records.specs.OneRecord as laws
 use Rattle.samples.specs.Samples.{streams-length, streams-easts, streams-norths}
 use Rattle.samples.specs.Outputs.{front}
-use Rattle.samples.specs.CountedAnswers.{counted_as, counted_injective}
-use Rattle.samples.specs.declared.answers.Counted.{Counted}
-use Rattle.samples.specs.declared.answers.Counted.TheVariants as counts
+use Rattle.samples.specs.Answers.{answer_of, answer_of_injective}
 use Rattle.writer.proofs.write_record.Kinds as kinds
 use Rattle.writer.proofs.write_record.Reads as reads
 use Rattle.demands.specs.Done.{None_hold, not_refused, counted-left, left_even, left-ring, left_as_given}
 use Rattle.demands.specs.Records as reading
 use Rattle.demands.specs.Records.{Reading, reading_done}
+use Rattle.samples.specs.declared.refusals.Refusal.{Refusal}
 
 -- a call of the writer
 pub record Writing : Type 1 where
   pub lifetimes : Lfts 3
   pub given : Dens lifetimes kinds.ps
-  pub answer : Counted
+  pub answer : Result ℕ Refusal
   pub left : AtExit (ended_of 3 kinds.ps kinds.r) lifetimes
   pub promised : reads.Post lifetimes given answer left
 
@@ -80,11 +79,11 @@ pub record Written-up (c : Writing) (n : ℕ) : Type 0 where
   pub count : n ≡ length (record_left c)
   pub bytes_left : take n (out_after c) ≡ record_left c
 
-pub writing_done : (c : Writing) {n : ℕ} → c.answer ≡ counts.Count n → Written-up c n
+pub writing_done : (c : Writing) {n : ℕ} → c.answer ≡ Ok n → Written-up c n
 unfolding write_answer
 writing_done c {n} e =
     let bytes = record_left c in
-    let (none, answered, count) = counted-left (tests c) bytes (sym (ap counted_as e) ∙ c.promised.0) in
+    let (none, answered, count) = counted-left (tests c) bytes (sym (ap answer_of e) ∙ c.promised.0) in
     let given = none.1.1 in
     let even = eqb-true (length (east c)) (length (north c)) (not-false _ given.0) in
     record {
@@ -101,7 +100,7 @@ writing_done c {n} e =
 
 -- ---- and read again
 
-module _ (c : Writing) (d : Reading) {n : ℕ} (written : c.answer ≡ counts.Count n) (given : reading.bytes d ≡ take n (out_after c)) where
+module _ (c : Writing) (d : Reading) {n : ℕ} (written : c.answer ≡ Ok n) (given : reading.bytes d ≡ take n (out_after c)) where
   done_writing : Written-up c n
   done_writing = writing_done c written
 
@@ -109,7 +108,7 @@ module _ (c : Writing) (d : Reading) {n : ℕ} (written : c.answer ≡ counts.Co
   record_given = given ∙ done_writing.bytes_left
 
   -- reading what was written gives the same ring
-  pub ring_again : {m : ℕ} → d.answer ≡ counts.Count m →
+  pub ring_again : {m : ℕ} → d.answer ≡ Ok m →
       (m ≡ length (east c)) × (take m (reading.east_after d) ≡ east c) × (take m (reading.north_after d) ≡ north c)
   ring_again e =
       let w = done_writing in
@@ -118,7 +117,7 @@ module _ (c : Writing) (d : Reading) {n : ℕ} (written : c.answer ≡ counts.Co
 
   -- and is not refused where there is room for it
   pub ring_taken : length (east c) ≤ length (reading.east_before d) → length (east c) ≤ length (reading.north_before d) →
-      d.answer ≡ counts.Count (length (east c))
+      d.answer ≡ Ok (length (east c))
   ring_taken h k =
       let w = done_writing in
       let many = streams-length (east c) (north c) w.even in
@@ -127,7 +126,7 @@ module _ (c : Writing) (d : Reading) {n : ℕ} (written : c.answer ≡ counts.Co
       (reading.north_before d)
       (omega (arith, many))
       (omega (arith, many)) in
-      counted_injective d.answer (counts.Count (length (east c)))
+      answer_of_injective d.answer (Ok (length (east c)))
       (d.promised.0
       ∙ ap (λ (bs : List ℕ). counted (record_answer bs (reading.east_before d) (reading.north_before d))) record_given
       ∙ ap counted read
@@ -135,7 +134,7 @@ module _ (c : Writing) (d : Reading) {n : ℕ} (written : c.answer ≡ counts.Co
 
 -- ---- and written again, in the same version and sense
 
-module _ (d : Reading) (c : Writing) {m : ℕ} (read : d.answer ≡ counts.Count m) (bytes : Bytes (reading.bytes d))
+module _ (d : Reading) (c : Writing) {m : ℕ} (read : d.answer ≡ Ok m) (bytes : Bytes (reading.bytes d))
     (version_given : version c ≡ layout.version (reading.bytes d)) (sense_given : sense c ≡ layout.sense (reading.bytes d))
     (east_given : east c ≡ take m (reading.east_after d)) (north_given : north c ≡ take m (reading.north_after d)) where
   done_reading : reading.Read-up d m
@@ -150,13 +149,13 @@ module _ (d : Reading) (c : Writing) {m : ℕ} (read : d.answer ≡ counts.Count
       ∙ laws.read_writes (reading.bytes d) (reading.east_before d) (reading.north_before d) done_reading.answered bytes
 
   -- writing what was read gives the same bytes
-  pub bytes_again : {n : ℕ} → c.answer ≡ counts.Count n → (n ≡ length (reading.bytes d)) × (take n (out_after c) ≡ reading.bytes d)
+  pub bytes_again : {n : ℕ} → c.answer ≡ Ok n → (n ≡ length (reading.bytes d)) × (take n (out_after c) ≡ reading.bytes d)
   bytes_again e =
       let w = writing_done c e in
       (w.count ∙ ap length record_given_back, w.bytes_left ∙ record_given_back)
 
   -- and is not refused where there is room for them
-  pub bytes_taken : length (reading.bytes d) ≤ length (out_before c) → c.answer ≡ counts.Count (length (reading.bytes d))
+  pub bytes_taken : length (reading.bytes d) ≤ length (out_before c) → c.answer ≡ Ok (length (reading.bytes d))
   unfolding write_answer
   bytes_taken room =
       let r = done_reading in
@@ -175,13 +174,13 @@ module _ (d : Reading) (c : Writing) {m : ℕ} (read : d.answer ≡ counts.Count
         ap not (eq-eqb (length (east c)) (length (north c)) even),
         (le-ltb most (length (east c)) (omega (arith, r.few)), (rw ring_given r.near, (ap not (ap envelope ring_given ∙ r.ring-read), (short, tt)))),
       )) in
-      counted_injective c.answer (counts.Count (length (reading.bytes d)))
+      answer_of_injective c.answer (Ok (length (reading.bytes d)))
       (c.promised.0 ∙ ap counted written ∙ ap (λ (bs : List ℕ). done (length bs)) record_given_back)
 
 -- ---- one record for each version and sense, one ring
 
 -- two records of one version and sense that are read as one ring are the same bytes
-pub one_record : (c d : Reading) {n m : ℕ} → c.answer ≡ counts.Count n → d.answer ≡ counts.Count m → Bytes (reading.bytes c) → Bytes (reading.bytes d) →
+pub one_record : (c d : Reading) {n m : ℕ} → c.answer ≡ Ok n → d.answer ≡ Ok m → Bytes (reading.bytes c) → Bytes (reading.bytes d) →
     layout.version (reading.bytes c) ≡ layout.version (reading.bytes d) → layout.sense (reading.bytes c) ≡ layout.sense (reading.bytes d) →
     take n (reading.east_after c) ≡ take m (reading.east_after d) → take n (reading.north_after c) ≡ take m (reading.north_after d) →
     reading.bytes c ≡ reading.bytes d
@@ -194,7 +193,7 @@ one_record c d e f b b' hv hs he hn =
     t.answered
 
 -- two rings that are written as one record are the same lists
-pub one-ring : (c d : Writing) {n m : ℕ} → c.answer ≡ counts.Count n → d.answer ≡ counts.Count m → take n (out_after c) ≡ take m (out_after d) →
+pub one-ring : (c d : Writing) {n m : ℕ} → c.answer ≡ Ok n → d.answer ≡ Ok m → take n (out_after c) ≡ take m (out_after d) →
     (east c ≡ east d) × (north c ≡ north d)
 one-ring c d e f h =
     let w = writing_done c e in

@@ -1,6 +1,7 @@
 pub mod UseAnswers
 pub mod Tests
 pub mod TwoRings
+pub mod CornersNear
 pub mod RoundTheRing
 pub mod FirstBest
 pub mod Strongest

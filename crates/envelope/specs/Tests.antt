@@ -4,11 +4,10 @@ use Rattle.std.specs.Prelude.{◌≡◌, true, List, [], ◌∷◌, ◌++◌, �
 use Rattle.std.proofs.lemmas.Bool.{not-false}
 use Rattle.rules.specs.Streams.{Stream, streams, most}
 use Rattle.rules.specs.Use.{envelope}
-use Rattle.rules.specs.Refusals.{Test, ring_tests, single_beyond, not_envelope}
+use Rattle.rules.specs.Refusals.{done, Test, unless, ring_tests, single_beyond, not_envelope}
 use Rattle.samples.specs.Positions.{Near, Sampled}
 use Rattle.samples.specs.Samples.{both-within}
-use Rattle.samples.specs.Tests.{tested_of, passed_tests, sampled_few}
-use Rattle.samples.specs.declared.tests.Tested.TheVariants.{Passed}
+use Rattle.samples.specs.InOrder.{passed_tests, sampled_few}
 
 -- "A course or single stream is tested for 3 after the ring's own 3": 1, 2, 3, 3, 9
 abbrev pub stream_tests : List ℤ → List ℤ → Stream → List Test
@@ -20,9 +19,9 @@ alone_tests es ns = ring_tests es ns ++ (not_envelope es ns ∷ [])
 
 module _ (es ns : List ℤ) where
   -- a ring and a stream within the limit
-  pub stream_passed : (s : Stream) → tested_of (stream_tests es ns s) ≡ Passed → Sampled es ns × Near s
-  stream_passed s e =
-      let n = passed_tests (stream_tests es ns s) e in
+  pub stream_passed : {A : Type 0} (x : A) {y : A} (s : Stream) → unless (stream_tests es ns s) x ≡ done y → Sampled es ns × Near s
+  stream_passed x s e =
+      let n = passed_tests x (stream_tests es ns s) e in
       ((sampled_few es ns (single_beyond s ∷ not_envelope es ns ∷ []) n).0, both-within s n.1.1.1.0)
 
   -- a ring that is an envelope
@@ -31,8 +30,8 @@ module _ (es ns : List ℤ) where
     pub few : length es ≤ most
     pub is-envelope : envelope (streams es ns) ≡ true
 
-  pub sound : tested_of (alone_tests es ns) ≡ Passed → Sound
-  sound e =
-      let n = passed_tests (alone_tests es ns) e in
+  pub sound : {A : Type 0} (x : A) {y : A} → unless (alone_tests es ns) x ≡ done y → Sound
+  sound x e =
+      let n = passed_tests x (alone_tests es ns) e in
       let f = sampled_few es ns (not_envelope es ns ∷ []) n in
       record { sampled = f.0; few = f.1; is-envelope = not-false (envelope (streams es ns)) n.1.1.1.0 }

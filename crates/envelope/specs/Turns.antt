@@ -1,5 +1,5 @@
 -- The parts of a ring turned about: the place of entry, and the parts with their signs changed from there on and round. Assumes nothing.
-use Rattle.std.specs.Prelude.{◌≡◌, refl, true, false, ℕ, zero, suc, ◌+◌, ◌-◌, ◌≤◌, ◌<◌, ℤ, pos, neg_ℤ, ◌≤ℤ◌, length, get_or, take, drop}
+use Rattle.std.specs.Prelude.{◌≡◌, refl, true, false, ℕ, zero, suc, ◌+◌, ◌-◌, ◌≤◌, ◌<◌, ℤ, pos, neg_ℤ, ◌≤ℤ◌, length, get_or, take, drop, Result}
 use Rattle.std.proofs.Common.{sym, ap, ap₂, ◌∙◌, subst, arith, lit≤, get_or-drop}
 use Rattle.std.proofs.Math.Path.{fun_ext}
 use mathlib.Core.List.{List, [], ◌∷◌, ◌++◌, map, map-append, map-map, Memᴰ}
@@ -17,8 +17,8 @@ use Rattle.laws_rings.specs.Cycle.{from_place, turn_from, turned-length}
 use Rattle.laws_rings.specs.FewestCorners.{no_samples}
 use Rattle.samples.specs.Positions.{Sampled}
 use Rattle.samples.specs.Samples.{streams-length, streams-easts, streams-norths}
-use Rattle.samples.specs.declared.answers.Counted.{Counted}
-use Rattle.samples.specs.CountedAnswers.{counted_as}
+use Rattle.samples.specs.Answers.{answer_of}
+use Rattle.samples.specs.declared.refusals.Refusal.{Refusal}
 use Rattle.envelope.specs.UseAnswers.{TurnPromise}
 use Rattle.envelope.specs.FirstBest.{First, first-apart, first_unbeaten, nearer_entry, entry_orders}
 use Rattle.envelope.specs.Writes.{map-drop, map-take}
@@ -114,7 +114,7 @@ module _ (es ns : List ℤ) (even : length es ≡ length ns) {r : ℕ} (t : Entr
 
 module _ (es ns oe on : List ℤ) where
   -- a refusal alters nothing
-  pub turn_refused : {r : Counted} {number place : ℕ} → counted_as r ≡ refused number place → turn_answer es ns oe on ≡ refused number place →
+  pub turn_refused : {r : Result ℕ Refusal} {number place : ℕ} → answer_of r ≡ refused number place → turn_answer es ns oe on ≡ refused number place →
       TurnPromise es ns oe on r oe on
   turn_refused h e =
       record {
@@ -124,8 +124,8 @@ module _ (es ns oe on : List ℤ) where
       }
 
   -- from the place of entry on all corners are written
-  pub turn_done : {r : Counted} {oe' on' : List ℤ} {k : ℕ} → Sampled es ns → envelope (streams es ns) ≡ true → Entry (streams es ns) k →
-      counted_as r ≡ done (length es) → oe' ≡ written (turned_from k es) oe → on' ≡ written (turned_from k ns) on →
+  pub turn_done : {r : Result ℕ Refusal} {oe' on' : List ℤ} {k : ℕ} → Sampled es ns → envelope (streams es ns) ≡ true → Entry (streams es ns) k →
+      answer_of r ≡ done (length es) → oe' ≡ written (turned_from k es) oe → on' ≡ written (turned_from k ns) on →
       turn_answer es ns oe on ≡ done (turn_about (streams es ns)) → TurnPromise es ns oe on r oe' on'
   turn_done p v t h he hn e =
       record {

@@ -6,20 +6,12 @@ ghost use Rattle.rules.specs.Use.{between, covers};
 ghost use Rattle.rules.specs.Entries.{cover_answer};
 ghost use Rattle.samples.specs.Positions.{Near, Sampled};
 ghost use Rattle.samples.specs.HeldStream.{stream_of};
-ghost use Rattle.envelope.specs.UseAnswers.{covered_as};
+ghost use Rattle.samples.specs.Answers.{answer_of};
 ghost use Rattle.envelope.specs.RoundTheRing.{beside_from};
 
 use crate::test::of_ring_and_stream;
+use samples::refusals::Refusal;
 use samples::streams::{Stream, at, not_left, same, side};
-use samples::tests::Tested;
-
-// Yes or no, or a refusal's number and place.
-#[derive(Clone, Copy)]
-pub enum Covered {
-    Yes,
-    No,
-    Refused { number: u32, place: usize },
-}
 
 // x lies from a to b or from b to a, ends included.
 fn between(a: i32, b: i32, x: i32) -> bool
@@ -43,12 +35,10 @@ fn beside(east: &[i32], north: &[i32], s: Stream) -> bool
     ensures { result ≡ beside_from (streams east.now north.now) (stream_of s) 1 }
 {
     let n = east.len();
-    let mut i = 1;
-    while i < n {
+    for i in 1..n {
         if !not_left(at(east, north, i - 1), at(east, north, i), s) {
             return false;
         }
-        i += 1;
     }
     not_left(at(east, north, n - 1), at(east, north, 0), s)
 }
@@ -72,18 +62,10 @@ fn covers(east: &[i32], north: &[i32], s: Stream) -> bool
 }
 
 // Whether the ring covers the stream (x, y), unless refused: 1, 2 and 3 for the ring, 3 for the stream, 9.
-pub fn cover(east: &[i32], north: &[i32], x: i32, y: i32) -> Covered
-    ensures { covered_as result ≡ cover_answer east.now north.now x y }
+pub fn cover(east: &[i32], north: &[i32], x: i32, y: i32) -> Result<bool, Refusal>
+    ensures { answer_of result ≡ cover_answer east.now north.now x y }
 {
     let s = Stream { east: x, north: y };
-    match of_ring_and_stream(east, north, s) {
-        Tested::Passed => {}
-        Tested::Refused { number, place } => {
-            return Covered::Refused { number, place };
-        }
-    }
-    if covers(east, north, s) {
-        return Covered::Yes;
-    }
-    Covered::No
+    of_ring_and_stream(east, north, s)?;
+    Ok(covers(east, north, s))
 }

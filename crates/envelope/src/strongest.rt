@@ -5,18 +5,19 @@ ghost use Rattle.rules.specs.Streams.{streams, eqZ};
 ghost use Rattle.rules.specs.Entries.{strongest_answer};
 ghost use Rattle.samples.specs.Positions.{Near, Sampled};
 ghost use Rattle.samples.specs.HeldStream.{stream_of};
+ghost use Rattle.samples.specs.Answers.{answer_as};
 ghost use Rattle.envelope.specs.UseAnswers.{strongest_as};
 ghost use Rattle.envelope.specs.FirstBest.{First, stronger};
 
 use crate::test::of_ring_and_stream;
+use samples::refusals::{Reason, Refusal};
 use samples::streams::{Stream, at, set_on};
-use samples::tests::Tested;
 
-// The greatest set and the first place that has it, or a refusal's number and place.
+// The greatest set and the first place that has it.
 #[derive(Clone, Copy)]
-pub enum StrongestSet {
-    Greatest { set: i64, place: usize },
-    Refused { number: u32, place: usize },
+pub struct Greatest {
+    pub set: i64,
+    pub place: usize,
 }
 
 // The first place that no corner beats.
@@ -26,12 +27,10 @@ pub fn strongest_place(east: &[i32], north: &[i32], course: Stream) -> usize
         (length east.now) result }
 {
     let mut best = 0;
-    let mut i = 1;
-    while i < east.len() {
+    for i in 1..east.len() {
         if set_on(course, at(east, north, best)) < set_on(course, at(east, north, i)) {
             best = i;
         }
-        i += 1;
     }
     best
 }
@@ -48,31 +47,18 @@ fn nowhere(course: Stream) -> bool
 }
 
 // The strongest set on the course (x, y), unless refused: 1, 2 and 3 for the ring, 3 for the course, 9, 10, 11.
-pub fn strongest(east: &[i32], north: &[i32], x: i32, y: i32) -> StrongestSet
-    ensures { strongest_as result ≡ strongest_answer east.now north.now x y }
+pub fn strongest(east: &[i32], north: &[i32], x: i32, y: i32) -> Result<Greatest, Refusal>
+    ensures { answer_as strongest_as result ≡ strongest_answer east.now north.now x y }
 {
     let course = Stream { east: x, north: y };
-    match of_ring_and_stream(east, north, course) {
-        Tested::Passed => {}
-        Tested::Refused { number, place } => {
-            return StrongestSet::Refused { number, place };
-        }
-    }
+    of_ring_and_stream(east, north, course)?;
     if east.len() == 0 {
-        return StrongestSet::Refused {
-            number: 10,
-            place: 0,
-        };
+        return Err(Reason::NoCorner.into());
     }
     if nowhere(course) {
-        return StrongestSet::Refused {
-            number: 11,
-            place: 0,
-        };
+        return Err(Reason::NoCourse.into());
     }
-    let best = strongest_place(east, north, course);
-    StrongestSet::Greatest {
-        set: set_on(course, at(east, north, best)),
-        place: best,
-    }
+    let place = strongest_place(east, north, course);
+    let set = set_on(course, at(east, north, place));
+    Ok(Greatest { set, place })
 }

@@ -3,33 +3,44 @@
 
 ghost use Rattle.std.specs.Prelude.{◌≡◌, true, map, ◌≤◌, ◌<◌, neg_ℤ, length};
 ghost use Rattle.rules.specs.Lists.{written};
-ghost use Rattle.rules.specs.Streams.{streams};
+ghost use Rattle.rules.specs.Streams.{sample};
 ghost use Rattle.rules.specs.Use.{envelope};
+ghost use Rattle.envelope.specs.CornersNear.{CornersNear};
 ghost use Rattle.envelope.specs.UseAnswers.{TurnPromise};
 ghost use Rattle.envelope.specs.Turns.{Entry, AllNear, turned_from};
-ghost use Rattle.envelope.specs.Begins.{After, changed_if};
+ghost use Rattle.envelope.specs.Begins.{After, Begins, changed_if, turned_if};
 ghost use Rattle.samples.specs.Positions.{Near};
 ghost use Rattle.samples.specs.HeldStream.{stream_of};
 
 use crate::test::of_ring;
-use samples::answers::Counted;
-use samples::streams::{Stream, at, leftmost};
-use samples::tests::{Tested, too_short};
+use samples::corners::{Corners, Lists};
+use samples::refusals::{Reason, Refusal};
+use samples::streams::{Stream, leftmost};
+use samples::tests::too_short;
 
 // The first place of the corner with the greatest east and, among those, the least north.
-pub fn entry(east: &[i32], north: &[i32]) -> usize
-    requires { (length east.now ≡ length north.now) × (envelope (streams east.now north.now) ≡ true) }
-    ensures { Entry (streams east.now north.now) result }
+pub fn entry<C: Corners>(ring: &C) -> usize
+    requires { envelope (C.corners ring.now) ≡ true }
+    ensures { Entry (C.corners ring.now) result }
 {
     let mut best = 0;
-    let mut i = 1;
-    while i < east.len() {
-        if leftmost(at(east, north, best), at(east, north, i)) {
+    for i in 1..ring.count() {
+        if leftmost(ring.corner(best), ring.corner(i)) {
             best = i;
         }
-        i += 1;
     }
     best
+}
+
+// The place of the corner with which the ring begins, as it is or turned about.
+pub fn first_corner<C: Corners>(about: bool, ring: &C) -> usize
+    requires { envelope (C.corners ring.now) ≡ true }
+    ensures { Begins about (C.corners ring.now) result }
+{
+    if about {
+        return entry(ring);
+    }
+    0
 }
 
 // The place that comes i places after a start, round n of them.
@@ -58,15 +69,21 @@ pub fn changed(about: bool, s: Stream) -> Stream
     s
 }
 
+// The corner at place i of the ring as it is or turned about, which begins with the corner at place first.
+pub fn turned_corner<C: Corners>(about: bool, first: usize, ring: &C, i: usize) -> Stream
+    requires { CornersNear (C.corners ring.now) × Begins about (C.corners ring.now) first × (i < length (C.corners ring.now)) }
+    ensures { stream_of result ≡ sample (turned_if about (C.corners ring.now)) i }
+{
+    changed(about, ring.corner(place_after(first, i, ring.count())))
+}
+
 // The parts with the sign changed, at the front of out.
 fn negate(parts: &[i32], out: &mut [i32])
     requires { AllNear parts.now × (length parts.now ≤ length out.old) }
     ensures { out.new ≡ written (map neg_ℤ parts.now) out.old }
 {
-    let mut i = 0;
-    while i < parts.len() {
+    for i in 0..parts.len() {
         out[i] = -parts[i];
-        i += 1;
     }
 }
 
@@ -86,24 +103,16 @@ pub fn turn_about(
     north: &[i32],
     out_east: &mut [i32],
     out_north: &mut [i32],
-) -> Counted
+) -> Result<usize, Refusal>
     ensures { TurnPromise east.now north.now out_east.old out_north.old result
         out_east.new out_north.new }
 {
-    match of_ring(east, north) {
-        Tested::Passed => {}
-        Tested::Refused { number, place } => {
-            return Counted::Refused { number, place };
-        }
-    }
+    of_ring(east, north)?;
     if too_short(out_east.len(), out_north.len(), east.len()) {
-        return Counted::Refused {
-            number: 5,
-            place: 0,
-        };
+        return Err(Reason::OutputShort.into());
     }
-    let start = entry(east, north);
+    let start = entry(&Lists { east, north });
     negate_from(east, start, out_east);
     negate_from(north, start, out_north);
-    Counted::Count(east.len())
+    Ok(east.len())
 }

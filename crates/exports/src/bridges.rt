@@ -4,7 +4,8 @@ ghost use Rattle.rules.specs.Refusals.{scratch_after};
 ghost use Rattle.rules.specs.Entries.{bridge_answer};
 ghost use Rattle.exports.specs.Bridges.{bridge_face};
 
-use bridge::BridgeAnswer;
+use crate::told::told;
+use bridge::Ends;
 
 #[repr(C)]
 #[derive(Clone, Copy)]
@@ -25,18 +26,12 @@ pub extern "C" fn nuoskelma_bridge(
     ensures answer { result ≡ bridge_face (bridge_answer east.now north.now a scratch.old) }
     ensures scratch { scratch.new ≡ scratch_after (bridge_answer east.now north.now a scratch.old) scratch.old }
 {
-    match bridge::bridge(east, north, a, scratch) {
-        BridgeAnswer::Found { left, right } => Bridged {
-            number: 0,
-            place: 0,
-            left,
-            right,
-        },
-        BridgeAnswer::Refused { number, place } => Bridged {
-            number,
-            place,
-            left: 0,
-            right: 0,
-        },
+    let none = Ends { left: 0, right: 0 };
+    let (number, place, ends) = told(bridge::bridge(east, north, a, scratch), none);
+    Bridged {
+        number,
+        place,
+        left: ends.left,
+        right: ends.right,
     }
 }

@@ -4,7 +4,8 @@ ghost use Rattle.rules.specs.Refusals.{output_after, scratch_after};
 ghost use Rattle.rules.specs.Entries.{chains_answer};
 ghost use Rattle.exports.specs.Chains.{chains_face, uppers, lowers};
 
-use chains::ChainsAnswer;
+use crate::told::told;
+use chains::Counts;
 
 #[repr(C)]
 #[derive(Clone, Copy)]
@@ -31,18 +32,12 @@ pub extern "C" fn nuoskelma_chains(
     ensures scratch { scratch.new ≡ scratch_after
         (chains_answer east.now north.now upper.old lower.old scratch.old) scratch.old }
 {
-    match chains::chains(east, north, upper, lower, scratch) {
-        ChainsAnswer::Done { upper: u, lower: v } => ChainsC {
-            number: 0,
-            place: 0,
-            upper: u,
-            lower: v,
-        },
-        ChainsAnswer::Refused { number, place } => ChainsC {
-            number,
-            place,
-            upper: 0,
-            lower: 0,
-        },
+    let none = Counts { upper: 0, lower: 0 };
+    let (number, place, counts) = told(chains::chains(east, north, upper, lower, scratch), none);
+    ChainsC {
+        number,
+        place,
+        upper: counts.upper,
+        lower: counts.lower,
     }
 }

@@ -1,9 +1,10 @@
 // How many corners, or bytes, an entry wrote.
 ghost use Rattle.std.specs.Prelude.{◌≡◌};
-ghost use Rattle.samples.specs.CountedAnswers.{counted_as};
+ghost use Rattle.samples.specs.Answers.{answer_of};
 ghost use Rattle.exports.specs.Rings.{count_face};
 
-use samples::answers::Counted;
+use crate::told::told;
+use samples::refusals::Refusal;
 
 #[repr(C)]
 #[derive(Clone, Copy)]
@@ -14,19 +15,13 @@ pub struct CountedC {
 }
 
 // The count, or the refusal.
-pub fn counted(said: Counted) -> CountedC
-    ensures { result ≡ count_face (counted_as said) }
+pub fn counted(said: Result<usize, Refusal>) -> CountedC
+    ensures { result ≡ count_face (answer_of said) }
 {
-    match said {
-        Counted::Count(count) => CountedC {
-            number: 0,
-            place: 0,
-            count,
-        },
-        Counted::Refused { number, place } => CountedC {
-            number,
-            place,
-            count: 0,
-        },
+    let (number, place, count) = told(said, 0);
+    CountedC {
+        number,
+        place,
+        count,
     }
 }

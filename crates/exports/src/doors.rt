@@ -4,10 +4,11 @@ ghost use Rattle.rules.specs.Door.{part, readings};
 ghost use Rattle.rules.specs.Entries.{door_answer, door_output_after, taken_east, taken_north};
 ghost use Rattle.exports.specs.Doors.{part_face, readings_face};
 
-use door::{PartAnswer, ReadingsAnswer};
+use door::PartAnswer;
+use samples::refusals::Reason;
 
 #[repr(C)]
-#[derive(Clone, Copy)]
+#[derive(Clone, Copy, Default)]
 pub struct PartTaken {
     pub number: u32,
     pub value: i32,
@@ -15,7 +16,7 @@ pub struct PartTaken {
 }
 
 #[repr(C)]
-#[derive(Clone, Copy)]
+#[derive(Clone, Copy, Default)]
 pub struct ReadingsTaken {
     pub number: u32,
     pub place: usize,
@@ -29,24 +30,22 @@ pub extern "C" fn nuoskelma_part(x: f64) -> PartTaken
 {
     match door::part(x) {
         PartAnswer::Whole(value) => PartTaken {
-            number: 0,
             value,
-            back: 0.0,
+            ..PartTaken::default()
         },
         PartAnswer::NotANumber => PartTaken {
-            number: 12,
-            value: 0,
-            back: 0.0,
+            number: Reason::NotANumber.number(),
+            ..PartTaken::default()
         },
         PartAnswer::TooLarge(back) => PartTaken {
-            number: 13,
-            value: 0,
+            number: Reason::TooLarge.number(),
             back,
+            ..PartTaken::default()
         },
         PartAnswer::Fraction(back) => PartTaken {
-            number: 14,
-            value: 0,
+            number: Reason::Fraction.number(),
             back,
+            ..PartTaken::default()
         },
     }
 }
@@ -65,27 +64,15 @@ pub extern "C" fn nuoskelma_readings(
         (door_answer es.now ns.now east.old north.old) north.old }
 {
     match door::take_readings(es, ns, east, north) {
-        ReadingsAnswer::Done(count) => ReadingsTaken {
-            number: 0,
-            place: 0,
+        Ok(count) => ReadingsTaken {
             count,
-            back: 0.0,
+            ..ReadingsTaken::default()
         },
-        ReadingsAnswer::Refused { number, place } => ReadingsTaken {
-            number,
-            place,
-            count: 0,
-            back: 0.0,
-        },
-        ReadingsAnswer::RefusedFloat {
-            number,
-            place,
-            float,
-        } => ReadingsTaken {
-            number,
-            place,
-            count: 0,
-            back: float,
+        Err(refused) => ReadingsTaken {
+            number: refused.refusal.reason.number(),
+            place: refused.refusal.place,
+            back: refused.float.unwrap_or(0.0),
+            ..ReadingsTaken::default()
         },
     }
 }

@@ -3,7 +3,8 @@ ghost use Rattle.std.specs.Prelude.{◌≡◌};
 ghost use Rattle.rules.specs.Entries.{hand_answer, hand_step_answer};
 ghost use Rattle.exports.specs.Hands.{hand_at, made_face, stepped_face};
 
-use hand::{Edge, Hand, Made};
+use crate::told::told;
+use hand::{Edge, Hand};
 
 #[repr(C)]
 #[derive(Clone, Copy)]
@@ -30,24 +31,38 @@ pub struct HandStepped {
     pub hand: HandC,
 }
 
+impl From<Hand> for HandC {
+    ghost from_gives = { λ hand r. r ≡ record { count = hand.count; place = hand.place } };
+
+    fn from(hand: Hand) -> HandC {
+        HandC {
+            count: hand.count,
+            place: hand.place,
+        }
+    }
+}
+
+impl From<HandC> for Hand {
+    ghost from_gives = { λ hand r. r ≡ record { count = hand.count; place = hand.place } };
+
+    fn from(hand: HandC) -> Hand {
+        Hand {
+            count: hand.count,
+            place: hand.place,
+        }
+    }
+}
+
 #[unsafe(no_mangle)]
 pub extern "C" fn nuoskelma_hand_for(corners: usize) -> HandMade
     ensures { result ≡ made_face (hand_answer corners) }
 {
-    match Hand::made_for(corners) {
-        Made::At(h) => HandMade {
-            number: 0,
-            place: 0,
-            hand: HandC {
-                count: h.count,
-                place: h.place,
-            },
-        },
-        Made::Refused { number, place } => HandMade {
-            number,
-            place,
-            hand: HandC { count: 0, place: 0 },
-        },
+    let none = Hand { count: 0, place: 0 };
+    let (number, place, hand) = told(Hand::made_for(corners), none);
+    HandMade {
+        number,
+        place,
+        hand: hand.into(),
     }
 }
 
@@ -55,30 +70,13 @@ pub extern "C" fn nuoskelma_hand_for(corners: usize) -> HandMade
 pub extern "C" fn nuoskelma_hand_step(hand: HandC) -> HandStepped
     ensures { result ≡ stepped_face (hand_step_answer (hand_at hand)) (hand_at hand) }
 {
-    let stepped = Hand {
-        count: hand.count,
-        place: hand.place,
-    }
-    .step();
-    let next = HandC {
-        count: stepped.next.count,
-        place: stepped.next.place,
-    };
-    let edge = stepped.edge;
-    match edge {
-        Edge::Between { from, to } => HandStepped {
-            number: 0,
-            place: 0,
-            from,
-            to,
-            hand: next,
-        },
-        Edge::Refused { number, place } => HandStepped {
-            number,
-            place,
-            from: 0,
-            to: 0,
-            hand: next,
-        },
+    let stepped = Hand::from(hand).step();
+    let (number, place, edge) = told(stepped.edge, Edge { from: 0, to: 0 });
+    HandStepped {
+        number,
+        place,
+        from: edge.from,
+        to: edge.to,
+        hand: stepped.next.into(),
     }
 }

@@ -11,4 +11,5 @@ mod picks;
 mod records;
 mod rings;
 mod rounds;
+mod told;
 mod uses;

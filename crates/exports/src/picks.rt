@@ -4,7 +4,7 @@ ghost use Rattle.rules.specs.Refusals.{scratch_after};
 ghost use Rattle.rules.specs.Entries.{pick_answer};
 ghost use Rattle.exports.specs.Picks.{picked_face};
 
-use picker::Picked;
+use crate::told::told;
 
 #[repr(C)]
 #[derive(Clone, Copy)]
@@ -19,16 +19,10 @@ pub extern "C" fn nuoskelma_pick(numbers: &[i32], rank: usize, scratch: &mut [u3
     ensures answer { result ≡ picked_face (pick_answer numbers.now rank scratch.old) }
     ensures scratch { scratch.new ≡ scratch_after (pick_answer numbers.now rank scratch.old) scratch.old }
 {
-    match picker::pick(numbers, rank, scratch) {
-        Picked::Done(value) => PickedC {
-            number: 0,
-            place: 0,
-            value,
-        },
-        Picked::Refused { number, place } => PickedC {
-            number,
-            place,
-            value: 0,
-        },
+    let (number, place, value) = told(picker::pick(numbers, rank, scratch), 0);
+    PickedC {
+        number,
+        place,
+        value,
     }
 }

@@ -4,11 +4,11 @@ ghost use Rattle.rules.specs.Refusals.{output_after, scratch_after};
 ghost use Rattle.rules.specs.Entries.{round_answer, kept_list};
 ghost use Rattle.exports.specs.Rounds.{round_face};
 
-use round::RoundAnswer;
+use round::turn::Said;
 
 // Kind 1 is a bridge, left and right; kind 2 is a kept list of so many numbers; a refusal has kind 0.
 #[repr(C)]
-#[derive(Clone, Copy)]
+#[derive(Clone, Copy, Default)]
 pub struct RoundSaid {
     pub number: u32,
     pub place: usize,
@@ -34,29 +34,21 @@ pub extern "C" fn nuoskelma_round(
         (round_answer east.now north.now list.now a output.old scratch.old) scratch.old }
 {
     match round::round(east, north, list, a, output, scratch) {
-        RoundAnswer::Found { left, right } => RoundSaid {
-            number: 0,
-            place: 0,
+        Ok(Said::Found { left, right }) => RoundSaid {
             kind: 1,
             left,
             right,
-            kept: 0,
+            ..RoundSaid::default()
         },
-        RoundAnswer::Kept(kept) => RoundSaid {
-            number: 0,
-            place: 0,
+        Ok(Said::Kept(kept)) => RoundSaid {
             kind: 2,
-            left: 0,
-            right: 0,
             kept,
+            ..RoundSaid::default()
         },
-        RoundAnswer::Refused { number, place } => RoundSaid {
-            number,
-            place,
-            kind: 0,
-            left: 0,
-            right: 0,
-            kept: 0,
+        Err(refusal) => RoundSaid {
+            number: refusal.reason.number(),
+            place: refusal.place,
+            ..RoundSaid::default()
         },
     }
 }

@@ -5,8 +5,8 @@ ghost use Rattle.rules.specs.Entries.{strongest_answer, cover_answer, turn_answe
 ghost use Rattle.exports.specs.Rings.{strongest_face, cover_face, counted_face, parts_east, parts_north};
 
 use crate::counts::{CountedC, counted};
-use envelope::cover::Covered;
-use envelope::strongest::StrongestSet;
+use crate::told::told;
+use envelope::strongest::Greatest;
 
 #[repr(C)]
 #[derive(Clone, Copy)]
@@ -29,19 +29,13 @@ pub struct CoverTold {
 pub extern "C" fn nuoskelma_strongest(east: &[i32], north: &[i32], x: i32, y: i32) -> StrongestC
     ensures { result ≡ strongest_face (strongest_answer east.now north.now x y) }
 {
-    match envelope::strongest::strongest(east, north, x, y) {
-        StrongestSet::Greatest { set, place } => StrongestC {
-            number: 0,
-            place: 0,
-            set,
-            at: place,
-        },
-        StrongestSet::Refused { number, place } => StrongestC {
-            number,
-            place,
-            set: 0,
-            at: 0,
-        },
+    let none = Greatest { set: 0, place: 0 };
+    let (number, place, greatest) = told(envelope::strongest::strongest(east, north, x, y), none);
+    StrongestC {
+        number,
+        place,
+        set: greatest.set,
+        at: greatest.place,
     }
 }
 
@@ -49,22 +43,11 @@ pub extern "C" fn nuoskelma_strongest(east: &[i32], north: &[i32], x: i32, y: i3
 pub extern "C" fn nuoskelma_cover(east: &[i32], north: &[i32], x: i32, y: i32) -> CoverTold
     ensures { result ≡ cover_face (cover_answer east.now north.now x y) }
 {
-    match envelope::cover::cover(east, north, x, y) {
-        Covered::Yes => CoverTold {
-            number: 0,
-            place: 0,
-            covered: 1,
-        },
-        Covered::No => CoverTold {
-            number: 0,
-            place: 0,
-            covered: 0,
-        },
-        Covered::Refused { number, place } => CoverTold {
-            number,
-            place,
-            covered: 0,
-        },
+    let (number, place, covered) = told(envelope::cover::cover(east, north, x, y), false);
+    CoverTold {
+        number,
+        place,
+        covered: covered as u32,
     }
 }
 

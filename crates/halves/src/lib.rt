@@ -2,8 +2,7 @@
 #![tactic(auto)]
 
 ghost use Rattle.std.specs.Prelude.{◌≡◌, ◌≤◌, ◌<◌, length};
-ghost use Rattle.std.specs.Int.Signed.{lt_z};
-ghost use Rattle.rules.specs.Streams.{eqZ, streams};
+ghost use Rattle.rules.specs.Streams.{streams};
 ghost use Rattle.laws_halves.specs.Scanned.{corner, Scanned};
 ghost use Rattle.samples.specs.Positions.{east_of};
 ghost use Rattle.samples.specs.HeldStream.{stream_of};
@@ -19,38 +18,18 @@ pub struct Halves {
     pub back: usize,
 }
 
-// The east at place i is further west than that at place j.
-fn west(east: &[i32], i: usize, j: usize) -> bool
-    requires { (i < length east.now) × (j < length east.now) }
-    ensures { result ≡ lt_z (east_of east.now i) (east_of east.now j) }
-{
-    east[i] < east[j]
-}
-
-// The easts at both places are one: neither is further west.
-fn level(east: &[i32], i: usize, j: usize) -> bool
-    requires { (i < length east.now) × (j < length east.now) }
-    ensures { result ≡ eqZ (east_of east.now i) (east_of east.now j) }
-{
-    if west(east, i, j) {
-        return false;
-    }
-    !west(east, j, i)
-}
-
 // The last place up to which easts rise.
 fn crest(east: &[i32]) -> usize
     requires { 0 < length east.now }
     ensures { Crest (east_of east.now) (length east.now) result }
 {
-    let mut k = 0;
-    while k + 1 < east.len() {
-        if !west(east, k, k + 1) {
+    let last = east.len() - 1;
+    for k in 0..last {
+        if east[k + 1] <= east[k] {
             return k;
         }
-        k += 1;
     }
-    k
+    last
 }
 
 // Where the half that goes back starts: at the crest, or straight below it.
@@ -58,10 +37,8 @@ fn turn(east: &[i32], k: usize) -> usize
     requires { k < length east.now }
     ensures { result ≡ turn_of (east_of east.now) (length east.now) k }
 {
-    if k + 1 < east.len() {
-        if level(east, k + 1, k) {
-            return k + 1;
-        }
+    if k + 1 < east.len() && east[k + 1] == east[k] {
+        return k + 1;
     }
     k
 }
@@ -72,7 +49,7 @@ fn home(east: &[i32]) -> usize
     ensures { result ≡ home_of (east_of east.now) (length east.now) }
 {
     let last = east.len() - 1;
-    if level(east, last, 0) {
+    if east[last] == east[0] {
         return last;
     }
     east.len()
@@ -89,7 +66,7 @@ pub fn scan(east: &[i32]) -> Halves
     Halves { there, turn, back }
 }
 
-// The corner at a place, place 0 again after the last.
+// The corner at a place, place 0 again after the last. Two lent lists, as the rules fix it.
 pub fn corner(east: &[i32], north: &[i32], i: usize) -> Stream
     requires { (length east.now ≡ length north.now) × (0 < length east.now) × (i ≤ length east.now) }
     ensures { stream_of result ≡ corner (streams east.now north.now) i }

@@ -2,10 +2,12 @@
 // hand one place on.
 #![tactic(auto)]
 
-ghost use Rattle.std.specs.Prelude.{◌≡◌};
+ghost use Rattle.std.specs.Prelude.{◌≡◌, Ok, Err};
 ghost use Rattle.rules.specs.Entries.{hand_answer, hand_step_answer, hand_after};
-ghost use Rattle.hand.specs.HandAnswers.{hand_at, made_as, edge_as};
+ghost use Rattle.samples.specs.Answers.{answer_as};
+ghost use Rattle.hand.specs.HandAnswers.{hand_at, edge_as};
 
+use samples::refusals::{Reason, Refusal};
 use samples::tests::MOST;
 
 #[derive(Clone, Copy)]
@@ -14,61 +16,47 @@ pub struct Hand {
     pub place: usize,
 }
 
-// What comes of making a hand: the hand, or a refusal's number and place.
+// An edge as two places.
 #[derive(Clone, Copy)]
-pub enum Made {
-    At(Hand),
-    Refused { number: u32, place: usize },
+pub struct Edge {
+    pub from: usize,
+    pub to: usize,
 }
 
-// What a step finds: the present edge as two places, or a refusal's number and place.
-#[derive(Clone, Copy)]
-pub enum Edge {
-    Between { from: usize, to: usize },
-    Refused { number: u32, place: usize },
-}
-
-// What a step gives: the edge, and the hand one place on. A refused step hands back the hand as it came.
+// What a step gives: the present edge, and the hand one place on. A refused step hands back the hand as it came.
 #[derive(Clone, Copy)]
 pub struct Step {
-    pub edge: Edge,
+    pub edge: Result<Edge, Refusal>,
     pub next: Hand,
 }
 
 impl Hand {
     // A hand for m corners, at place 0.
     #[tactic(auto, unfolding(rules::specs::Entries::hand_answer))]
-    pub fn made_for(m: usize) -> Made
-        ensures { made_as result ≡ hand_answer m }
+    pub fn made_for(m: usize) -> Result<Hand, Refusal>
+        ensures { answer_as hand_at result ≡ hand_answer m }
     {
         if MOST < m {
-            return Made::Refused {
-                number: 2,
-                place: 0,
-            };
+            return Err(Reason::TooMany.into());
         }
         if m == 0 {
-            return Made::Refused {
-                number: 10,
-                place: 0,
-            };
+            return Err(Reason::NoCorner.into());
         }
-        Made::At(Hand { count: m, place: 0 })
+        Ok(Hand { count: m, place: 0 })
     }
 
     // The present edge, from this place to the next, and the hand one place on: place 0 after the last.
     #[tactic(auto, unfolding(rules::specs::Entries::hand_step_answer))]
     pub fn step(self) -> Step
-        ensures edge { edge_as result.edge ≡ hand_step_answer (hand_at self) }
+        ensures edge { answer_as edge_as result.edge ≡ hand_step_answer (hand_at self) }
         ensures next { hand_at result.next ≡ hand_after (hand_step_answer (hand_at self)) (hand_at self) }
     {
-        let count = self.count;
-        let place = self.place;
+        let Hand { count, place } = self;
         if MOST < count {
-            return self.refused(2);
+            return self.refused(Reason::TooMany);
         }
         if count <= place {
-            return self.refused(10);
+            return self.refused(Reason::NoCorner);
         }
         if place + 1 == count {
             return self.moved_to(0);
@@ -76,23 +64,23 @@ impl Hand {
         self.moved_to(place + 1)
     }
 
-    fn refused(self, number: u32) -> Step
-        ensures { result ≡ record { edge = Edge.Refused number 0; next = self } }
+    fn refused(self, reason: Reason) -> Step
+        ensures { result ≡ record { edge = Err (record { reason = reason; place = 0 }); next = self } }
     {
         Step {
-            edge: Edge::Refused { number, place: 0 },
+            edge: Err(reason.into()),
             next: self,
         }
     }
 
     fn moved_to(self, to: usize) -> Step
-        ensures { result ≡ record { edge = Edge.Between self.place to; next = record { count = self.count; place = to } } }
+        ensures { result ≡ record { edge = Ok (record { from = self.place; to = to }); next = record { count = self.count; place = to } } }
     {
         Step {
-            edge: Edge::Between {
+            edge: Ok(Edge {
                 from: self.place,
                 to,
-            },
+            }),
             next: Hand {
                 count: self.count,
                 place: to,

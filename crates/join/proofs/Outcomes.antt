@@ -5,19 +5,20 @@ use mathlib.Core.Path.{◌≡◌, sym, ◌∙◌}
 use contract.Lifetimes.{Lfts}
 use denote.Triple.Clauses.{AtExit}
 use borrow.Fn.Kinds.{Dens, ended_of}
-use Rattle.samples.specs.declared.answers.Counted.{Counted}
-use Rattle.samples.specs.CountedAnswers.{counted_injective}
+use Rattle.std.specs.Prelude.{ℕ, Result}
+use Rattle.samples.specs.Answers.{answer_of_injective}
+use Rattle.samples.specs.declared.refusals.Refusal.{Refusal}
 use Rattle.join.proofs.join.Kinds as kinds
 use Rattle.join.proofs.join.Reads as reads
 
-pub join_one : (κs : Lfts 7) (a : Dens κs kinds.ps) (r r' : Counted) (s s' : AtExit (ended_of 7 kinds.ps kinds.r) κs) →
+pub join_one : (κs : Lfts 7) (a : Dens κs kinds.ps) (r r' : Result ℕ Refusal) (s s' : AtExit (ended_of 7 kinds.ps kinds.r) κs) →
     reads.Post κs a r s → reads.Post κs a r' s' →
     (r ≡ r')
     × (s.1.1.1.1.0.now ≡ s'.1.1.1.1.0.now)
     × (s.1.1.1.1.1.0.now ≡ s'.1.1.1.1.1.0.now)
     × (s.1.1.1.1.1.1.0.now ≡ s'.1.1.1.1.1.1.0.now)
 join_one κs a r r' s s' p q = (
-  counted_injective r r' (p.says ∙ sym q.says),
+  answer_of_injective r r' (p.says ∙ sym q.says),
   p.east_after ∙ sym q.east_after,
   p.north_after ∙ sym q.north_after,
   p.scratch-is ∙ sym q.scratch-is,

@@ -31,6 +31,11 @@ pub data WaysFound (E : ℕ → ℤ) (m : ℕ) : ℕ → ℕ → ℕ → Type 0 
   no_corner : m ≡ 0 → WaysFound E m 0 0 0
   two_halves : {k c n : ℕ} → Scanned E m k c n → WaysFound E m (k + 1) (c + n) (n + 1)
 
+-- found as two ways: above from place 0 on, below from place `home` back
+pub record WaysHeld (E : ℕ → ℤ) (m : ℕ) (above below : Way) : Type 0 where
+  pub at_start : above.from ≡ 0
+  pub found : WaysFound E m above.count below.from below.count
+
 -- the way back ends in the ring, or at place 0 again
 pub home_within : {E : ℕ → ℤ} {m k c n : ℕ} → Scanned E m k c n → c + n ≤ m
 home_within {E} {m} {c} {n} s = go (eqZ (E (m - 1)) (E 0)) s.last
@@ -126,3 +131,8 @@ ways_over {es} {ns} o (two_halves s) =
     let size = streams-length es ns o.sampled.even in
     let h = found_halves o.sampled o.is-envelope s in
     (over-above size h.0 s.inside, over_below size h.1 (let l = s.inside in omega arith))
+
+pub ways_of : {es ns : List ℤ} {above below : Way} → Sound es ns → WaysHeld (east_of es) (length es) above below
+    → WayOver false (streams es ns) (length es) above.from above.count × WayOver true (streams es ns) (length es) below.from below.count
+ways_of {es} {ns} {above} {below} o f =
+    let w = ways_over o f.found in (subst (λ (from : ℕ). WayOver false (streams es ns) (length es) from above.count) (sym f.at_start) w.0, w.1)

@@ -1,21 +1,19 @@
 -- The middle of five keys by the lesser and the greater of two, and the middles written behind the keys.
 -- Assumes nothing.
-use mathlib.Core.Path.{◌≡◌, refl, sym, ap, ap₂, ◌∙◌, subst, subst₂}
+use mathlib.Core.Path.{◌≡◌, refl, sym, ap, ap₂, ◌∙◌, subst}
 use mathlib.Core.Bool.{Bool, true, false, not}
 use mathlib.Core.List.{List, [], ◌∷◌, ◌++◌, map, map-append}
-use Prim.Native.Nat.{ℕ, ◌+◌, ◌*◌, ◌/◌, ◌≤◌, ◌<◌, min, max}
+use Prim.Native.Nat.{ℕ, ◌+◌, ◌/◌, ◌≤◌, ◌<◌, min, max}
 use native.Mathlib.Numerals.{add-one}
 use native.Mathlib.Omega.{arith}
 use borrow.Author.Tests.{leb-true, leb-false}
 use lib.Dec.{T, leb, le→leb, not_T}
-use lib.ListN.{length, take, drop, set, length-drop, length-set}
-use lib.Seq.{length-take-le, get_or-take, take-take, take-set-le, take-suc-set, drop-set-add}
+use lib.ListN.{length, take, set}
+use lib.Seq.{take_all, take-suc-set}
 use Rattle.laws_ranks.specs.Counts.{bit, bit_le, bit_yes, bit_no, count}
 use Rattle.laws_ranks.specs.Ranks.{HasRank, under, upto, rank_of_same_items}
 use Rattle.laws_ranks.specs.Numbers.{natural_order, natural_rank_is}
 use Rattle.laws_ranks.specs.Middles.{column, middle, middles, middle_of_middles, fives, fives_more, length-middles}
-use Rattle.picker.specs.Picking.{Middled, Picks}
-use Rattle.picker.specs.declared.Ranked.{Ranked}
 
 -- ---- the middle of five
 
@@ -138,91 +136,43 @@ middle_from a b c d e f g is_f is-g =
           two-same t f g,
         )
 
-pub middle_of_five : (a b c d e f g : ℕ)
-    → f ≡ max (min a b) (min c d)
-    → g ≡ min (max a b) (max c d)
-    → max (min f g) (min (max f g) e) ≡ middle leb 0 (a ∷ b ∷ c ∷ d ∷ e ∷ [])
+pub middle_of_five : (a b c d e : ℕ)
+    → max (min (max (min a b) (min c d)) (min (max a b) (max c d))) (min (max (max (min a b) (min c d)) (min (max a b) (max c d))) e)
+    ≡ middle leb 0 (a ∷ b ∷ c ∷ d ∷ e ∷ [])
 unfolding middle
-middle_of_five a b c d e f g is_f is-g = natural_rank_is 0 (middle_from a b c d e f g is_f is-g)
+middle_of_five a b c d e =
+    natural_rank_is 0 (middle_from a b c d e (max (min a b) (min c d)) (min (max a b) (max c d)) refl refl)
 
--- ---- the middles behind the keys
+-- ---- the middles of all groups
 
--- a group of the front is one of the whole
-column_of_front : (w : List ℕ) (n g i : ℕ) → 5 * g ≤ n → i < g → column 0 g (take n w) i ≡ column 0 g w i
-column_of_front w n g i h k =
-    rw (
-      get_or-take n w i 0 (omega arith),
-      get_or-take n w (g + i) 0 (omega arith),
-      get_or-take n w (2 * g + i) 0 (omega arith),
-      get_or-take n w (3 * g + i) 0 (omega arith),
-      get_or-take n w (4 * g + i) 0 (omega arith),
-    )
+-- one group more
+pub grouping_more : (keys now : List ℕ) (g i v : ℕ)
+    → i < length now
+    → v ≡ middle leb 0 (column 0 g keys i)
+    → take i now ≡ map (middle leb 0) (fives 0 g keys i)
+    → take (i + 1) (set now i v) ≡ map (middle leb 0) (fives 0 g keys (i + 1))
+grouping_more keys now g i v h e t =
+    ap (λ (n : ℕ). take n (set now i v)) (add-one i)
+    ∙ take-suc-set now i v h
+    ∙ ap₂ (λ (l : List ℕ) (m : ℕ). l ++ (m ∷ [])) t e
+    ∙ sym (map-append (middle leb 0) (fives 0 g keys i) (column 0 g keys i ∷ []))
+    ∙ ap (map (middle leb 0)) (sym (fives_more 0 g keys i) ∙ ap (fives 0 g keys) (sym (add-one i)))
 
--- the middles of the first i groups lie behind the n keys, which are as they were
-pub record Grouping (given : List ℕ) (n g : ℕ) (now : List ℕ) (i : ℕ) : Type 0 where
-  pub same_keys : take n now ≡ take n given
-  pub written : take i (drop n now) ≡ map (middle leb 0) (fives 0 g (take n given) i)
-  pub long : length now ≡ length given
+pub grouping_all : (keys now : List ℕ) (g i : ℕ)
+    → g ≡ length keys / 5
+    → length now ≡ g
+    → i ≡ g
+    → take i now ≡ map (middle leb 0) (fives 0 g keys i)
+    → now ≡ middles leb 0 keys
+unfolding middles
+grouping_all keys now g i e h k t = sym (take_all g now (omega arith)) ∙ (rw k at t) ∙ ap (λ (n : ℕ). map (middle leb 0) (fives 0 n keys n)) e
 
-pub grouping_none : (given : List ℕ) (n g : ℕ) → Grouping given n g given 0
-unfolding fives
-grouping_none given n g = record { same_keys = refl; written = refl; long = refl }
-
-module _ (given : List ℕ) (n g : ℕ) (room : 2 * n ≤ length given) (groups : g ≡ n / 5) where
-  pub grouping_more : (now : List ℕ) (i v : ℕ)
-      → i < g
-      → v ≡ middle leb 0 (column 0 g now i)
-      → Grouping given n g now i
-      → Grouping given n g (set now (n + i) v) (i + 1)
-  grouping_more now i v h e t =
-      let l = t.long in
-      record {
-        same_keys = take-set-le n now (n + i) v (omega arith) ∙ t.same_keys;
-        written =
-            ap₂ take (add-one i) (drop-set-add n now i v)
-            ∙ take-suc-set (drop n now) i v (omega (arith, length-drop n now))
-            ∙ ap₂ (λ (l : List ℕ) (m : ℕ). l ++ (m ∷ [])) t.written (e ∙ ap (middle leb 0) group)
-            ∙ sym (map-append (middle leb 0) (fives 0 g (take n given) i) (column 0 g (take n given) i ∷ []))
-            ∙ ap (map (middle leb 0)) (sym (fives_more 0 g (take n given) i) ∙ ap (fives 0 g (take n given)) (sym (add-one i)));
-        long = length-set now (n + i) v ∙ t.long;
-      }
-    where
-      group : column 0 g now i ≡ column 0 g (take n given) i
-      group = sym (column_of_front now n g i (omega arith) h) ∙ ap (λ (l : List ℕ). column 0 g l i) t.same_keys
-
-  pub grouping_all : (now : List ℕ) (i : ℕ) → g ≤ i → i ≤ g → Grouping given n g now i → Middled given n g now
-  unfolding middles
-  grouping_all now i h k t =
-      record {
-        groups = groups;
-        same_keys = t.same_keys;
-        middles =
-            ap (λ (x : ℕ). take x (drop n now)) same
-            ∙ t.written
-            ∙ ap₂ (λ (x y : ℕ). map (middle leb 0) (fives 0 x (take n given) y)) all (sym same ∙ all);
-      }
-    where
-      same : g ≡ i
-      same = omega arith
-
-      all : g ≡ length (take n given) / 5
-      all = groups ∙ ap (λ (x : ℕ). x / 5) (sym (length-take-le n given (omega arith)))
-
--- the key picked at the middle rank r among the middles, in the room behind the keys, is the middle of the middles
-pub picked-middle : {w now : List ℕ} {n g m r : ℕ} {said : Ranked}
-    → n ≤ length w
-    → g ≤ m
-    → r ≡ (g + 1) / 2
-    → Middled w n g now
-    → Picks (take g (take m (drop n now))) r said
-    → said.key ≡ middle_of_middles leb 0 (take n w)
+-- the key picked at the middle rank among the middles is the middle of the middles
+pub picked-middle : (keys : List ℕ) {p r : ℕ}
+    → r ≡ (length keys / 5 + 1) / 2
+    → HasRank leb r (middles leb 0 keys) p
+    → p ≡ middle_of_middles leb 0 keys
 unfolding middle_of_middles middle
-picked-middle {w} {now} {n} {g} {m} {r} {said} fits few half t h =
+picked-middle keys {p} half h =
     natural_rank_is 0
-    (subst₂ (λ (l : List ℕ) (k : ℕ). HasRank leb k l said.key)
-    (take-take g m (drop n now) few ∙ t.middles)
-    (half ∙ ap (λ (k : ℕ). (k + 1) / 2) groups)
-    h.rank)
-  where
-    groups : g ≡ length (middles leb 0 (take n w))
-    groups = t.groups ∙ ap (λ (k : ℕ). k / 5) (sym (length-take-le n w fits)) ∙ sym (length-middles natural_order 0 (take n w))
+    (subst (λ (k : ℕ). HasRank leb k (middles leb 0 keys) p) (half ∙ ap (λ (n : ℕ). (n + 1) / 2) (sym (length-middles natural_order 0 keys))) h)

@@ -2,5 +2,4 @@ mod Passes
 mod Fives
 mod Loads
 mod GoingOn
-mod Answers
 pub mod Outcomes

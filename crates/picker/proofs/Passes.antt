@@ -1,6 +1,6 @@
 -- What the passes over keys keep: keys counted beside a pivot, those on one side of it kept, the least key taken out. Each has its laws: at the start, after one
 -- more key, at the end. Assumes nothing.
-use mathlib.Core.Path.{◌≡◌, refl, sym, ap, ◌∙◌, subst₂}
+use mathlib.Core.Path.{◌≡◌, refl, ap, ◌∙◌, subst₂}
 use mathlib.Core.Bool.{Bool, true, false, cond, not}
 use mathlib.Core.List.{List, [], ◌∷◌, ◌++◌}
 use Prim.Native.Nat.{ℕ, ◌+◌, ◌-◌, ◌≤◌, ◌<◌, min, max}
@@ -9,55 +9,62 @@ use mir.Val.{bool_byte}
 use borrow.Author.Tests.{leb-true, leb-false}
 use lib.Dec.{leb, ltb}
 use lib.ListN.{length, get_or, take, drop, set, length-take, length-set}
-use lib.Seq.{take-add, get_or-set_other}
+use lib.Seq.{drop-cons, get_or-set_other, length-take-le}
+use native.Mathlib.Numerals.{add-one}
+use Rattle.std.proofs.lemmas.List.{take-append-le}
 use Rattle.laws_ranks.specs.Counts.{count, count-le-length, count-append}
-use Rattle.laws_ranks.specs.Kept.{first_more, count_more, stored, Kept, kept_none, kept_more, kept-most}
-use Rattle.laws_ranks.specs.Ranks.{under, over}
+use Rattle.laws_ranks.specs.Kept.{byte_is, first_more, stored, Kept, kept_none, kept_more, kept-most}
+use Rattle.laws_ranks.specs.Ranks.{HasRank, under, over}
 use Rattle.laws_ranks.specs.RanksAmong.{OrderOn, order_on}
-use Rattle.laws_ranks.specs.Least.{LeastOut, out_one, out_more}
+use Rattle.laws_ranks.specs.Least.{LeastOut, Sought, out_one, out_more, sought_here, sought_next}
 use Rattle.laws_ranks.specs.Numbers.{natural_order, natural_under}
-use Rattle.picker.specs.Picking.{Pickable, Counted}
+use Rattle.picker.specs.Picking.{Counted}
 
 -- ---- keys counted
 
-module _ {p : ℕ} where
-  pub counted_none : Counted [] p 0 0
-  unfolding count
-  counted_none = record { below-is = refl; above-is = refl }
+-- the counts of the keys passed, with those of the keys to come, are the counts of all
+pub record Counting (keys rest : List ℕ) (p below above : ℕ) : Type 0 where
+  pub below-all : below + count (under leb p) rest ≡ count (under leb p) keys
+  pub above-all : above + count (over leb p) rest ≡ count (over leb p) keys
 
-  module _ {keys : List ℕ} {b a : ℕ} (t : Counted keys p b a) where
-    pub below_few : b ≤ length keys
-    below_few = omega (arith, t.below-is, count-le-length (under leb p) keys)
+module _ {p : ℕ} {keys : List ℕ} where
+  module _ {rest : List ℕ} {b a : ℕ} (t : Counting keys rest p b a) where
+    pub below_within : b ≤ length keys
+    below_within = omega (arith, t.below-all, count-le-length (under leb p) keys)
 
-    pub above_few : a ≤ length keys
-    above_few = omega (arith, t.above-is, count-le-length (over leb p) keys)
+    pub above-within : a ≤ length keys
+    above-within = omega (arith, t.above-all, count-le-length (over leb p) keys)
 
-  -- one more key, and a run of keys more
-  pub counted_more : (keys : List ℕ) {b a i : ℕ}
-      → i < length keys
-      → Counted (take i keys) p b a
-      → Counted (take (i + 1) keys) p (b + bool_byte (ltb (get_or keys i 0) p)) (a + bool_byte (ltb p (get_or keys i 0)))
-  counted_more keys {b} {a} {i} h t =
-      let x = get_or keys i 0 in
-      record {
-        below-is =
-            rw (first_more 0 keys i h, natural_under p x, t.below-is) (sym (count_more (under leb p) (take i keys) x));
-        above-is =
-            rw (first_more 0 keys i h, natural_under x p, t.above-is) (sym (count_more (over leb p) (take i keys) x));
-      }
+    -- a run of keys more
+    pub counting_on : {run left : List ℕ} {c d : ℕ} → rest ≡ run ++ left → Counted run p c d → Counting keys left p (b + c) (a + d)
+    counting_on {run} {left} split u =
+        record {
+          below-all = omega (arith, t.below-all, u.below-is, ap (count (under leb p)) split, count-append (under leb p) run left);
+          above-all = omega (arith, t.above-all, u.above-is, ap (count (over leb p)) split, count-append (over leb p) run left);
+        }
 
-  pub counted_on : (keys : List ℕ) (i e : ℕ) {b a c d : ℕ}
-      → i ≤ e
-      → Counted (take i keys) p b a
-      → Counted (take (e - i) (drop i keys)) p c d
-      → Counted (take e keys) p (b + c) (a + d)
-  counted_on keys i e h t u =
-      let is : e ≡ i + (e - i) = omega arith in
-      let split : take e keys ≡ take i keys ++ take (e - i) (drop i keys) = rw (← take-add i (e - i) keys, ← is) refl in
-      record {
-        below-is = omega (arith, t.below-is, u.below-is, ap (count (under leb p)) split, count-append (under leb p) (take i keys) (take (e - i) (drop i keys)));
-        above-is = omega (arith, t.above-is, u.above-is, ap (count (over leb p)) split, count-append (over leb p) (take i keys) (take (e - i) (drop i keys)));
-      }
+    -- every key
+    pub counting_all : length rest ≡ 0 → Counted keys p b a
+    counting_all none =
+        record {
+          below-is = omega (arith, t.below-all, count-le-length (under leb p) rest);
+          above-is = omega (arith, t.above-all, count-le-length (over leb p) rest);
+        }
+
+-- one key more
+pub counting_next : {p : ℕ} (keys : List ℕ) {b a i : ℕ}
+    → i < length keys
+    → Counting keys (drop i keys) p b a
+    → Counting keys (drop (i + 1) keys) p (b + bool_byte (ltb (get_or keys i 0) p)) (a + bool_byte (ltb p (get_or keys i 0)))
+unfolding count
+counting_next {p} keys {i = i} h t = counting_on t (rw (add-one i) (drop-cons keys i 0 h)) (counted_one (get_or keys i 0))
+  where
+    counted_one : (x : ℕ) → Counted (x ∷ []) p (bool_byte (ltb x p)) (bool_byte (ltb p x))
+    counted_one x =
+        record {
+          below-is = rw (natural_under p x) (omega (arith, byte_is (under leb p x)));
+          above-is = rw (natural_under x p) (omega (arith, byte_is (over leb p x)));
+        }
 
 -- ---- the keys on one side kept
 
@@ -126,14 +133,29 @@ lifting_more {given} {now} {i} {p} h t =
           (out_more keys_order (λ y m. tt) t.out tt (under leb p x) refl));
     }
 
-pub lifting_all : (n : ℕ) {given now : List ℕ} {i p : ℕ} → i + 1 ≡ n → Lifting given now i p → LeastOut leb (take n given) p (take (n - 1) now)
-lifting_all n {given} {now} {i} {p} e t =
-    let k : n - 1 ≡ i = omega arith in
-    rw (k, ← e) t.out
+-- ---- the least taken out until it has the rank
 
--- the rank before, among one key fewer
-pub asked_next : {w after : List ℕ} {m s : ℕ} → Pickable w m s → length after ≡ length w → 1 < s → Pickable after (m - 1) (s - 1)
-asked_next t same more =
-    let a = t.most in
-    let b = t.room in
-    record { least = omega arith; most = omega arith; room = omega arith }
+-- n keys were given, and t - 1 of them are out: one more
+pub taken_out : {given : List ℕ} (now after : List ℕ) (n t : ℕ) {r p : ℕ}
+    → 1 ≤ t
+    → t < r
+    → r ≤ n
+    → length now ≡ n
+    → Sought leb given r (take (n + 1 - t) now) (r + 1 - t)
+    → length after ≡ n + 1 - t
+    → LeastOut leb (take (n + 1 - t) now) p (take (length (take (n + 1 - t) now) - 1) after)
+    → Sought leb given r (take (n + 1 - (t + 1)) (after ++ drop (n + 1 - t) now)) (r + 1 - (t + 1))
+taken_out {given} now after n t {r} {p} first more few long s left out =
+    let keys : length (take (n + 1 - t) now) ≡ n + 1 - t = length-take-le (n + 1 - t) now (omega arith) in
+    let m : n + 1 - (t + 1) ≡ length (take (n + 1 - t) now) - 1 = omega arith in
+    let k : r + 1 - (t + 1) ≡ r + 1 - t - 1 = omega arith in
+    let fits : length (take (n + 1 - t) now) - 1 ≤ length after = omega arith in
+    rw (m, k, take-append-le) (sought_next keys_order (λ y m. tt) s out (omega arith))
+
+-- r - 1 are out: the next has the rank
+pub last_out : {given rest : List ℕ} (now : List ℕ) (n : ℕ) {r t p : ℕ}
+    → t ≡ r
+    → Sought leb given r (take (n + 1 - t) now) (r + 1 - t)
+    → LeastOut leb (take (n + 1 - r) now) p rest
+    → HasRank leb r given p
+last_out now n e s out = (sought_here keys_order (λ y m. tt) (rw e at s) out (omega arith)).1

@@ -11,8 +11,6 @@ use Rattle.laws_ranks.specs.Ranks.{Order, HasRank, under, upto, ranked-has-rank,
 use Rattle.laws_ranks.specs.RanksAmong.{by_key, by_key_order, ranked-map}
 use Rattle.laws_ranks.specs.Numbers.{natural_order, natural_rank_is, rank_is}
 use Rattle.picker.specs.Keys.{key_of, number_of, Words}
-use Rattle.picker.specs.declared.Ranked.{Ranked}
-use Rattle.picker.specs.Picking.{Picks}
 
 sub_pos : (a b : ℕ) → b ≤ a → sub_ℕ a b ≡ pos (a - b)
 sub_pos a b h = ap (λ (t : Bool). cond t (negsuc (b - suc a)) (pos (a - b))) (le-ltb a b h)
@@ -105,9 +103,9 @@ rank_of_keys {r} {k} {xs} words h = ap number_of is_key ∙ number_of_key v smal
         record { fewer = subst (λ (n : ℕ). n < r) below g.fewer; enough = subst (λ (n : ℕ). r ≤ n) at_most g.enough }
 
 -- a pick among the keys of numbers tells the number of the rank
-pub picked-number : {r : ℕ} {keys : List ℕ} {xs : List ℤ} {said : Ranked}
+pub picked-number : {r k : ℕ} {keys : List ℕ} {xs : List ℤ}
     → Words xs
     → keys ≡ map key_of xs
-    → Picks keys r said
-    → number_of said.key ≡ rank r xs
-picked-number {r} {said = said} words e h = rank_of_keys words (subst (λ (l : List ℕ). HasRank leb r l said.key) e h.rank)
+    → HasRank leb r keys k
+    → number_of k ≡ rank r xs
+picked-number {r} {k} words e h = rank_of_keys words (subst (λ (l : List ℕ). HasRank leb r l k) e h)

@@ -6,90 +6,62 @@ mod five;
 pub mod keys;
 mod scan;
 
-ghost use Rattle.std.specs.Prelude.{take};
-ghost use Rattle.picker.specs.Picking.{Pickable, Picks, Grouped, Pivots};
+ghost use Rattle.std.specs.Prelude.{◌≡◌, ◌≤◌, leb, length};
+ghost use Rattle.laws_ranks.specs.Middles.{middle_of_middles};
+ghost use Rattle.laws_ranks.specs.Ranks.{HasRank};
+ghost use Rattle.picker.specs.Picking.{Pickable};
 ghost use Rattle.picker.specs.Promise.{PickPromise};
 
+use samples::refusals::{Reason, Refusal};
 use samples::tests::MOST;
-use samples::words::clear;
 
-// The answer: the number of the asked rank, or the refusal's number and place.
-#[derive(Clone, Copy)]
-pub enum Picked {
-    Done(i32),
-    Refused { number: u32, place: usize },
-}
-
-// What a pick says: the key of the asked rank.
-#[derive(Clone, Copy)]
-pub struct Ranked {
-    pub key: u32,
-}
-
-// The key of rank r among the n keys at the front of w. More than twenty are narrowed by the pivot to the side that has the rank, again and again; of twenty or
-// fewer the least is taken out until it has the rank. Of what is lent only the length stays.
+// The key of rank r, in room for as many keys again. More than twenty keys are narrowed by the pivot to the side that has the rank, where the pick goes on; of
+// twenty or fewer the least is taken out until it has the rank. Of what is lent only the length stays.
 #[cycle(pick_key_pivot)]
-pub fn pick_key(w: &mut [u32], n: usize, r: usize) -> Ranked
-    requires { Pickable w.old n r }
-    ensures { Picks (take n w.old) r result }
+pub fn pick_key(keys: &mut [u32], room: &mut [u32], r: usize) -> u32
+    requires { Pickable keys.old room.old r }
+    ensures { HasRank leb r keys.old result }
 {
-    let mut m = n;
-    let mut s = r;
-    while 20 < m {
-        let p = pivot(w, m);
-        let rest = scan::narrow(w, m, s, p);
-        if rest.n == 0 {
-            return Ranked { key: p };
-        }
-        m = rest.n;
-        s = rest.r;
+    if keys.len() <= 20 {
+        return scan::short(keys, r);
     }
-    let key = scan::short(w, m, s);
-    Ranked { key }
+    let p = pivot(keys, room);
+    match scan::narrow(keys, r, p) {
+        None => p,
+        Some(rest) => pick_key(&mut keys[..rest.n], room, rest.r),
+    }
 }
 
-// The middle of the middles of the groups of five among the n keys at the front of w, which stay. It is found by picking, in the room behind them.
+// The middle of the middles of the groups of five among the keys. The middles are written into the room and picked among there.
 #[cycle(pick_key_pivot)]
-fn pivot(w: &mut [u32], n: usize) -> u32
-    requires { Grouped w.old n }
-    ensures { Pivots w.old n result w.new }
+fn pivot(keys: &[u32], room: &mut [u32]) -> u32
+    requires { (5 ≤ length keys.now) × (length keys.now ≤ length room.old) }
+    ensures { result ≡ middle_of_middles leb 0 keys.now }
 {
-    let g = five::middles(w, n);
-    let said = pick_key(&mut w[n..], g, (g + 1) / 2);
-    said.key
+    let g = keys.len() / 5;
+    let (middles, behind) = room.split_at_mut(g);
+    five::middles(keys, middles);
+    pick_key(middles, behind, g.div_ceil(2))
 }
 
 // The number of rank r among xs, repeats counted, in scratch of at least 16 words for each number and 64 more.
-pub fn pick(xs: &[i32], r: usize, scratch: &mut [u32]) -> Picked
+#[tactic(auto, unfolding(rules::specs::Entries::pick_answer))]
+pub fn pick(xs: &[i32], r: usize, scratch: &mut [u32]) -> Result<i32, Refusal>
     ensures { PickPromise xs.now r scratch.old result scratch.new }
 {
     let n = xs.len();
     if MOST < n {
-        return Picked::Refused {
-            number: 2,
-            place: 0,
-        };
+        return Err(Reason::TooMany.into());
     }
-    if r == 0 {
-        return Picked::Refused {
-            number: 8,
-            place: 0,
-        };
-    }
-    if n < r {
-        return Picked::Refused {
-            number: 8,
-            place: 0,
-        };
+    if r == 0 || n < r {
+        return Err(Reason::NoSuchRank.into());
     }
     if scratch.len() < 16 * n + 64 {
-        return Picked::Refused {
-            number: 4,
-            place: 0,
-        };
+        return Err(Reason::ScratchShort.into());
     }
     keys::load(xs, scratch);
-    let said = pick_key(scratch, n, r);
-    clear(scratch);
-    Picked::Done(keys::number(said.key))
+    let (keys, room) = scratch.split_at_mut(n);
+    let key = pick_key(keys, room, r);
+    scratch.fill(0);
+    Ok(keys::number(key))
 }

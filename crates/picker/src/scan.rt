@@ -1,64 +1,42 @@
 // Passes over keys, written without branches: a test is added as 0 or 1, and of two keys each is chosen by a test.
-ghost use Rattle.std.specs.Prelude.{◌-◌, ◌≤◌, ◌<◌, leb, length, take, ◌≡◌};
+ghost use Rattle.std.specs.Prelude.{◌-◌, ◌≤◌, leb, length, take, ◌≡◌, MatchOption};
 ghost use Rattle.laws_ranks.specs.Kept.{Kept};
 ghost use Rattle.laws_ranks.specs.Ranks.{HasRank};
 ghost use Rattle.laws_ranks.specs.Least.{LeastOut};
-ghost use Rattle.picker.specs.Picking.{Pickable, Counted, side, Narrowable, Narrowed};
-
-use super::five::{greater, lesser};
+ghost use Rattle.picker.specs.Picking.{Counted, side, Narrowable, Narrowed};
 
 // How many keys are below a key, and how many above it.
+// This and Rest stand in slopes too: neither crate uses the other, and a crate for two pairs of numbers is no plainer.
 #[derive(Clone, Copy)]
-struct Counts {
-    below: usize,
-    above: usize,
+struct Counts<N> {
+    below: N,
+    above: N,
 }
 
-// The same of a run of keys, in words, which the compiler adds several at once.
-#[derive(Clone, Copy)]
-struct RunCounts {
-    below: u32,
-    above: u32,
-}
-
-fn count_run(keys: &[u32], p: u32) -> RunCounts
+// The counts of a run of keys, in words, which the compiler adds several at once.
+fn count_run(keys: &[u32], p: u32) -> Counts<u32>
     requires { length keys.now ≤ 65536 }
     ensures { Counted keys.now p result.below result.above }
 {
     let mut below: u32 = 0;
     let mut above: u32 = 0;
-    let mut i = 0;
-    while i < keys.len() {
-        let x = keys[i];
+    for &x in keys {
         below += (x < p) as u32;
         above += (p < x) as u32;
-        i += 1;
     }
-    RunCounts { below, above }
+    Counts { below, above }
 }
 
-// The end of the run from place i on of n keys.
-fn run_end(i: usize, n: usize) -> usize
-    requires { i < n }
-    ensures { (i < result) × (result ≤ n) × (result - i ≤ 65536) }
-{
-    if n - i < 65536 { n } else { i + 65536 }
-}
-
-// How many of the n keys at the front are below p, and how many above it, run by run.
-fn count(w: &[u32], n: usize, p: u32) -> Counts
-    requires { n ≤ length w.now }
-    ensures { Counted (take n w.now) p result.below result.above }
+// How many of the keys are below p, and how many above it, run by run.
+fn count(keys: &[u32], p: u32) -> Counts<usize>
+    ensures { Counted keys.now p result.below result.above }
 {
     let mut below: usize = 0;
     let mut above: usize = 0;
-    let mut i = 0;
-    while i < n {
-        let e = run_end(i, n);
-        let c = count_run(&w[i..e], p);
+    for run in keys.chunks(65536) {
+        let c = count_run(run, p);
         below += c.below as usize;
         above += c.above as usize;
-        i = e;
     }
     Counts { below, above }
 }
@@ -70,19 +48,16 @@ fn beside(x: u32, p: u32, above: bool) -> bool
     if above { p < x } else { x < p }
 }
 
-// Leaves at the front those of the n keys that lie on one side of p, in their order, and says how many they are. Each is stored, and the place moves on by the
+// Leaves at the front those of the keys that lie on one side of p, in their order, and says how many they are. Each is stored, and the place moves on by the
 // test.
-fn keep(w: &mut [u32], n: usize, p: u32, above: bool) -> usize
-    requires { n ≤ length w.old }
-    ensures { Kept (side above p) (take n w.old) result w.new }
+fn keep(keys: &mut [u32], p: u32, above: bool) -> usize
+    ensures { Kept (side above p) keys.old result keys.new }
 {
     let mut k: usize = 0;
-    let mut i = 0;
-    while i < n {
-        let x = w[i];
-        w[k] = x;
+    for i in 0..keys.len() {
+        let x = keys[i];
+        keys[k] = x;
         k += beside(x, p, above) as usize;
-        i += 1;
     }
     k
 }
@@ -94,55 +69,48 @@ pub struct Rest {
     pub r: usize,
 }
 
-// One step by the pivot p. The keys below p and those above it are counted first; then those on the side that has the rank are left, which alone are moved; none
-// where p itself has it.
-pub fn narrow(w: &mut [u32], n: usize, r: usize, p: u32) -> Rest
-    requires { Narrowable w.old n r p }
-    ensures { Narrowed w.old n r p result w.new }
+// One step by the pivot p. The keys below p and those above it are counted first; then those on the side that has the rank are left at the front, which alone are
+// moved. Where p itself has the rank, nothing is left to seek.
+pub fn narrow(keys: &mut [u32], r: usize, p: u32) -> Option<Rest>
+    requires { Narrowable keys.old r p }
+    ensures { MatchOption result (HasRank leb r keys.old p) (λ rest. Narrowed keys.old r rest keys.new) }
 {
-    let c = count(w, n, p);
+    let c = count(keys, p);
     let below = c.below;
-    let upto = n - c.above;
+    let upto = keys.len() - c.above;
     if r <= below {
-        let k = keep(w, n, p, false);
-        return Rest { n: k, r };
+        let n = keep(keys, p, false);
+        return Some(Rest { n, r });
     }
     if r <= upto {
-        return Rest { n: 0, r };
+        return None;
     }
-    let k = keep(w, n, p, true);
-    Rest { n: k, r: r - upto }
+    let n = keep(keys, p, true);
+    Some(Rest { n, r: r - upto })
 }
 
-// Takes the least of the n keys at the front out; the others close up.
-fn least(w: &mut [u32], n: usize) -> u32
-    requires { (1 ≤ n) × (n ≤ length w.old) }
-    ensures { LeastOut leb (take n w.old) result (take (n - 1) w.new) }
+// Takes the least of the keys out; the others close up.
+fn least(keys: &mut [u32]) -> u32
+    requires { 1 ≤ length keys.old }
+    ensures { LeastOut leb keys.old result (take (length keys.old - 1) keys.new) }
 {
-    let mut p = w[0];
-    let mut i = 0;
-    while i + 1 < n {
-        let x = w[i + 1];
-        w[i] = greater(p, x);
-        p = lesser(p, x);
-        i += 1;
+    let mut p = keys[0];
+    for i in 0..keys.len() - 1 {
+        let x = keys[i + 1];
+        keys[i] = p.max(x);
+        p = p.min(x);
     }
     p
 }
 
-// The key of rank r among the n at the front, a short list: the least is taken out until it has the rank.
-pub fn short(w: &mut [u32], n: usize, r: usize) -> u32
-    requires { Pickable w.old n r }
-    ensures { HasRank leb r (take n w.old) result }
+// The key of rank r, of a short list: the least is taken out until it has the rank.
+pub fn short(keys: &mut [u32], r: usize) -> u32
+    requires { (1 ≤ r) × (r ≤ length keys.old) }
+    ensures { HasRank leb r keys.old result }
 {
-    let mut m = n;
-    let mut s = r;
-    loop {
-        let p = least(w, m);
-        if s == 1 {
-            return p;
-        }
-        m -= 1;
-        s -= 1;
+    let n = keys.len();
+    for taken in 1..r {
+        least(&mut keys[..n + 1 - taken]);
     }
+    least(&mut keys[..n + 1 - r])
 }

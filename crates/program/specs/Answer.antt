@@ -1,6 +1,6 @@
 -- The ring entry on the samples of a text, with lists of the program's sizes: of its tests only 3 can hold, so its answer is the rules' for the text.
 -- Assumes nothing.
-use Rattle.std.specs.Prelude.{◌≡◌, Bool, true, false, cond, List, ℕ, ◌+◌, ◌*◌, ◌≤◌, ℤ}
+use Rattle.std.specs.Prelude.{◌≡◌, Result, Ok, Err, Bool, true, false, cond, List, ℕ, ◌+◌, ◌*◌, ◌≤◌, ℤ}
 use Rattle.std.proofs.Math.Path.{refl}
 use Rattle.std.proofs.Common.{sym, ap, ◌∙◌, subst, arith}
 use borrow.Author.Tests.{le-ltb, eq-eqb}
@@ -15,9 +15,8 @@ use Rattle.laws_rounds.specs.StepsAtMiddle.{no_step_without_bridge}
 use Rattle.samples.specs.Samples.{streams-length}
 use Rattle.text.specs.TextAnswers as text
 use Rattle.text.specs.TextLines.{room_for_all, samples_few}
-use Rattle.samples.specs.CountedAnswers.{counted_as}
-use Rattle.samples.specs.declared.answers.Counted.{Counted}
-use Rattle.samples.specs.declared.answers.Counted.TheVariants as counts
+use Rattle.samples.specs.Answers.{number_of, answer_of}
+use Rattle.samples.specs.declared.refusals.Refusal.{Refusal}
 use Rattle.closing.specs.RingPromise.{Outcome}
 use Rattle.program.specs.Room.{ring_few, ring_of_samples_room}
 use Rattle.program.specs.Told.{told_refused, Told, told}
@@ -51,19 +50,20 @@ done_ring xs all = go (some_of beyond xs)
     go false e = cc
 
 -- what comes of the entry
-module _ (es ns : List ℤ) {east east' north north' : List ℤ} {scratch scratch' : List ℕ} {r : Counted}
+module _ (es ns : List ℤ) {east east' north north' : List ℤ} {scratch scratch' : List ℕ} {r : Result ℕ Refusal}
     (o : Outcome (ring_answer es ns east north scratch) r east east' north north' scratch scratch') (even : length es ≡ length ns)
     (few : length es ≤ 512) (e : 1024 ≤ length east) (n : 1024 ≤ length north) (s : 8256 ≤ length scratch) where
   answers : ring_answer es ns east north scratch ≡ ring_of_text (done (streams es ns))
   answers = ring-answers es ns east north scratch even few e n s
 
-  pub ring_refused : (k p : ℕ) → r ≡ counts.Refused k p → ring_of_text (done (streams es ns)) ≡ refused k p
-  ring_refused k p q = sym answers ∙ told_refused (ring_answer es ns east north scratch) k p (sym (ap counted_as q) ∙ o.says)
+  pub ring_refused : (k : Refusal) → r ≡ Err k → ring_of_text (done (streams es ns)) ≡ refused (number_of k.reason) k.place
+  ring_refused k q =
+      sym answers ∙ told_refused (ring_answer es ns east north scratch) (number_of k.reason) k.place (sym (ap answer_of q) ∙ o.says)
 
-  pub ring-told : (m : ℕ) → r ≡ counts.Count m → Told (ring_of_text (done (streams es ns))) m east' north'
+  pub ring-told : (m : ℕ) → r ≡ Ok m → Told (ring_of_text (done (streams es ns))) m east' north'
   ring-told m q =
       subst (λ (a : Answer (List Stream)). Told a m east' north') answers
-      (told (ring_answer es ns east north scratch) east east' north north' m o.east_after o.north_after (sym (ap counted_as q) ∙ o.says))
+      (told (ring_answer es ns east north scratch) east east' north north' m o.east_after o.north_after (sym (ap answer_of q) ∙ o.says))
 
 module _ (es ns : List ℤ) (even : length es ≡ length ns) (few : length es ≤ 512) where
   pub ring-count : {m : ℕ} {east north : List ℤ} → Told (ring_of_text (done (streams es ns))) m east north → m ≤ 1024
@@ -75,20 +75,20 @@ module _ (es ns : List ℤ) (even : length es ≡ length ns) (few : length es �
 -- ---- the text
 
 -- what comes of reading a text into lists of as many places as it can have samples
-module _ (bs : List ℕ) (east east' north north' : List ℤ) (e : most_lines ≤ length east) (n : most_lines ≤ length north) (r : Counted)
-    (says : counted_as r ≡ counted (text.samples_answer bs east north)) where
-  reads : counted_as r ≡ counted (samples bs)
+module _ (bs : List ℕ) (east east' north north' : List ℤ) (e : most_lines ≤ length east) (n : most_lines ≤ length north) (r : Result ℕ Refusal)
+    (says : answer_of r ≡ counted (text.samples_answer bs east north)) where
+  reads : answer_of r ≡ counted (samples bs)
   reads = says ∙ ap counted (room_for_all bs east north e n)
 
-  pub text_refused : (k p : ℕ) → r ≡ counts.Refused k p → samples bs ≡ refused k p
-  text_refused k p q = told_refused (samples bs) k p (sym (ap counted_as q) ∙ reads)
+  pub text_refused : (k : Refusal) → r ≡ Err k → samples bs ≡ refused (number_of k.reason) k.place
+  text_refused k q = told_refused (samples bs) (number_of k.reason) k.place (sym (ap answer_of q) ∙ reads)
 
   pub text-told : east' ≡ output_after easts (text.samples_answer bs east north) east →
       north' ≡ output_after norths (text.samples_answer bs east north) north →
-      (m : ℕ) → r ≡ counts.Count m → Told (samples bs) m east' north'
+      (m : ℕ) → r ≡ Ok m → Told (samples bs) m east' north'
   text-told a b m q =
       let s = room_for_all bs east north e n in
-      told (samples bs) east east' north north' m (rw s at a) (rw s at b) (sym (ap counted_as q) ∙ reads)
+      told (samples bs) east east' north north' m (rw s at a) (rw s at b) (sym (ap answer_of q) ∙ reads)
 
 pub text-count : (bs : List ℕ) {m : ℕ} {east north : List ℤ} → Told (samples bs) m east north → m ≤ 512
 text-count bs t = omega (arith, samples_few bs t.all t.is_done, t.many)

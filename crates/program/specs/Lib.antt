@@ -1,4 +1,3 @@
-pub mod Input
 pub mod Room
 pub mod Told
 pub mod Answer

@@ -24,6 +24,10 @@ pub record Told (a : Answer (List Stream)) (m : ℕ) (e n : List ℤ) : Type 0 w
   pub east-length : length (take m e) ≡ m
   pub north-length : length (take m n) ≡ m
 
+-- what stands there is the answer
+pub answered : {a : Answer (List Stream)} {m : ℕ} {e n : List ℤ} → Told a m e n → done (streams (take m e) (take m n)) ≡ a
+answered t = ap done t.parts ∙ sym t.is_done
+
 module _ (a : Answer (List Stream)) (e e' n n' : List ℤ) (m : ℕ) where
   pub told : e' ≡ output_after easts a e → n' ≡ output_after norths a n → done m ≡ counted a → Told a m e' n'
   told east_is north_is says =

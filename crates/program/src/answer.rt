@@ -8,7 +8,6 @@ ghost use Rattle.rules.specs.Program.{ring_of_text, printed, program};
 ghost use Rattle.program.specs.Prints.{Answers};
 
 use ring::ring;
-use samples::answers::Counted;
 use text::printing::{print_refusal, print_ring};
 use text::reading::samples;
 
@@ -42,8 +41,8 @@ pub fn answer(text: &[u8], out: &mut [u8; ROOM]) -> usize
     let mut east = [0i32; SAMPLES];
     let mut north = [0i32; SAMPLES];
     match samples(text, &mut east, &mut north) {
-        Counted::Refused { number, place } => print_refusal(number, place, out), // of the text
-        Counted::Count(count) => print_ring_of(&east[..count], &north[..count], out),
+        Ok(count) => print_ring_of(&east[..count], &north[..count], out),
+        Err(refusal) => print_refusal(refusal.reason.number(), refusal.place, out), // of the text
     }
 }
 
@@ -58,7 +57,7 @@ fn print_ring_of(east: &[i32], north: &[i32], out: &mut [u8; ROOM]) -> usize
     let mut ring_north = [0i32; CORNERS];
     let mut scratch = [0u32; SCRATCH];
     match ring(east, north, &mut ring_east, &mut ring_north, &mut scratch) {
-        Counted::Refused { number, place } => print_refusal(number, place, out), // of the samples
-        Counted::Count(count) => print_ring(&ring_east[..count], &ring_north[..count], out),
+        Ok(count) => print_ring(&ring_east[..count], &ring_north[..count], out),
+        Err(refusal) => print_refusal(refusal.reason.number(), refusal.place, out), // of the samples
     }
 }

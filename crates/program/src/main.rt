@@ -5,7 +5,7 @@ mod answer;
 mod input;
 
 use answer::{ROOM, answer_input};
-use input::{Input, read};
+use input::read;
 use std::io;
 use std::io::Print;
 
@@ -14,19 +14,17 @@ const ENOUGH: usize = 9217;
 
 fn main(rt: HostRuntime) -> io::Result<()> {
     let mut text = [0u8; ENOUGH];
-    match read(&mut rt.stdin(), &mut text) {
-        Input::Failed => rt
+    let Ok(count) = read(&mut rt.stdin(), &mut text) else {
+        return rt
             .stderr()
-            .write_all(b"envelope: standard input cannot be read\n"),
-        Input::Bytes(count) => {
-            let mut out = [0u8; ROOM];
-            let printed = answer_input(&text, count, &mut out);
-            if rt.stdout().write_all(&out[..printed]).is_err() {
-                return rt
-                    .stderr()
-                    .write_all(b"envelope: standard output cannot be written\n");
-            }
-            Ok(())
-        }
+            .write_all(b"envelope: standard input cannot be read\n");
+    };
+    let mut out = [0u8; ROOM];
+    let printed = answer_input(&text, count, &mut out);
+    if rt.stdout().write_all(&out[..printed]).is_err() {
+        return rt
+            .stderr()
+            .write_all(b"envelope: standard output cannot be written\n");
     }
+    Ok(())
 }

@@ -1,41 +1,38 @@
 -- The outcome of reading a record, test by test in the rules' order.
 -- Assumes nothing.
-use Rattle.std.specs.Prelude.{◌≡◌, Bool, true, false, ◌||◌, ℕ, ◌+◌, ◌%◌, ◌≤◌, ◌<◌, ℤ, length}
+use Rattle.std.specs.Prelude.{◌≡◌, Bool, true, false, ◌||◌, ℕ, ◌≤◌, ◌<◌, ℤ, length}
 use Rattle.std.proofs.Common.{sym, ◌∙◌, arith}
 use Rattle.std.proofs.Math.Path.{ap}
 use Rattle.std.proofs.Math.Bool.{not}
 use mathlib.Core.List.{List, [], ◌∷◌}
-use borrow.Author.Tests.{lt-ltb, le-ltb, eqb-true, ltb-false, not-false}
+use borrow.Author.Tests.{lt-ltb, le-ltb}
 use Rattle.std.proofs.Math.Dec.{ltb}
 use Rattle.rules.specs.Lists.{some_of, first_place}
 use Rattle.rules.specs.Streams.{Stream, most, beyond}
 use Rattle.rules.specs.Use.{envelope}
-use Rattle.rules.specs.Record.{head_size, size_of_sense, corner_size, in_sense, version, said_length, said_end, corners_in, sense, corners_part, stored, meant}
-use Rattle.rules.specs.Refusals.{refused, done, Test, test, unless, too_many, part_beyond}
+use Rattle.rules.specs.Record.{in_sense, corners_in, sense, corners_part, stored, meant}
+use Rattle.rules.specs.Refusals.{Answer, refused, done, Test, test, unless, too_many, part_beyond}
 use Rattle.rules.specs.Entries.{frame_tests, corner_tests, record_answer, ring_short}
+use Rattle.laws_refusals.specs.NoneHold.{when_done}
 use Rattle.laws_records.specs.InSense.{sense-length}
 use Rattle.samples.specs.Scans.{some_by_place}
-use Rattle.samples.specs.Tests.{tested_of, then_answer, passed_tests, answer_by, refuses, passes}
-use Rattle.samples.specs.declared.tests.Tested.{Tested}
-use Rattle.samples.specs.declared.tests.Tested.TheVariants.{Passed}
-use Rattle.reader.specs.RecordAnswers.{corners_answer}
+use Rattle.samples.specs.InOrder.{then_answer, answer_by, refuses, passes}
+use Rattle.reader.specs.RecordAnswers.{corners_answer, found}
 
 -- ---- the bytes around the corners
 
 -- by what their tests said
-pub after_frame : (bs : List ℕ) (es ns : List ℤ) {t : Tested} → tested_of (frame_tests bs) ≡ t →
-    record_answer bs es ns ≡ then_answer t (corners_answer (sense bs) (corners_part bs) es ns)
-unfolding record_answer
-after_frame bs es ns e = answer_by (frame_tests bs) (corner_tests (sense bs) (stored bs) es ns) (meant bs) e
+module _ (bs : List ℕ) (es ns : List ℤ) where
+  pub after_frame : {t : Answer (ℕ × List ℕ)} → t ≡ unless (frame_tests bs) (found bs) →
+      record_answer bs es ns ≡ then_answer t (corners_answer (sense bs) (corners_part bs) es ns)
+  unfolding record_answer
+  after_frame e = answer_by (frame_tests bs) (corner_tests (sense bs) (stored bs) es ns) (meant bs) (found bs) (sym e)
 
--- where they are passed the corners start inside
-pub long_enough : (bs : List ℕ) → tested_of (frame_tests bs) ≡ Passed → head_size + size_of_sense (version bs) ≤ length bs
-long_enough bs e =
-    let n = (passed_tests (frame_tests bs) e).1.1 in
-    let head = ltb-false (length bs) head_size n.0 in
-    let multiple = eqb-true (said_length bs % corner_size) (size_of_sense (version bs)) (not-false _ n.1.0) in
-    let end = ltb-false (length bs) (said_end bs) n.1.1.0 in
-    omega arith
+  -- what is said of the sense and of the corners' bytes that were found is said of the record
+  pub framed : {f : ℕ × List ℕ} → unless (frame_tests bs) (found bs) ≡ done f → corners_answer f.0 f.1 es ns ≡ record_answer bs es ns
+  framed e =
+      ap (λ (f : ℕ × List ℕ). corners_answer f.0 f.1 es ns) (sym (when_done (frame_tests bs) (found bs) e).1)
+      ∙ sym (after_frame (sym e))
 
 -- ---- the corners
 
@@ -95,5 +92,5 @@ module _ (s : ℕ) (cs : List ℕ) (es ns : List ℤ) where
         answered h = is_one ∙ passes (ring_short es ns ring) [] ring (room h)
 
 -- a first place that is the count is none
-pub none_beyond : (xs : List Stream) (place : ℕ) → place ≡ first_place beyond xs → length xs ≤ place → some_of beyond xs ≡ false
-none_beyond xs place e h = some_by_place beyond xs ∙ le-ltb (first_place beyond xs) (length xs) (omega arith)
+pub no_place : (xs : List Stream) (place : ℕ) → place ≡ first_place beyond xs → length xs ≤ place → some_of beyond xs ≡ false
+no_place xs place e h = some_by_place beyond xs ∙ le-ltb (first_place beyond xs) (length xs) (omega arith)

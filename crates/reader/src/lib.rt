@@ -1,272 +1,164 @@
 // The record reader: the going-to ring that a record's bytes mean, if the corners stored are an envelope.
 #![tactic(auto)]
 
-ghost use Rattle.std.specs.Prelude.{◌≡◌, true, ◌+◌, ◌≤◌, ◌<◌, length};
-ghost use Rattle.rules.specs.Lists.{first_place, written};
-ghost use Rattle.rules.specs.Streams.{sample, beyond};
-ghost use Rattle.rules.specs.Use.{envelope};
+ghost use Rattle.std.specs.Prelude.{◌≡◌, ◌+◌, ◌≤◌, length};
+ghost use Rattle.rules.specs.Lists.{written};
 ghost use Rattle.rules.specs.Record.{head_size, size_of_sense, word, twos, version, corners_in, sense};
-ghost use Rattle.rules.specs.Refusals.{output_after};
+ghost use Rattle.rules.specs.Refusals.{unless, output_after};
 ghost use Rattle.rules.specs.Entries.{frame_tests, record_answer, easts, norths, counted};
-ghost use Rattle.samples.specs.HeldStream.{stream_of};
-ghost use Rattle.samples.specs.CountedAnswers.{counted_as};
-ghost use Rattle.samples.specs.Tests.{tested_of};
-ghost use Rattle.envelope.specs.RoundTheRing.{round_from};
-ghost use Rattle.envelope.specs.Turns.{Entry};
+ghost use Rattle.samples.specs.Answers.{answer_of, answer_as};
+ghost use Rattle.samples.specs.Forms.{version_byte, sense_byte, ReadsSense};
 ghost use Rattle.envelope.specs.Begins.{Begins, turned_if};
-ghost use Rattle.reader.specs.RecordAnswers.{Passed, Room, corners_answer};
+ghost use Rattle.envelope.specs.CornersNear.{CornersNear};
+ghost use Rattle.reader.specs.RecordAnswers.{CornersRead, Room, corners_answer, framed_as, found};
 
-use envelope::test::{closes, turns};
-use envelope::turn::{changed, place_after};
-use samples::answers::Counted;
-use samples::streams::{Stream, beyond, leftmost};
-use samples::tests::{MOST, Tested, too_short};
-use samples::versions::{known, sense_size};
+use envelope::test::is_envelope;
+use envelope::turn::{first_corner, turned_corner};
+use samples::corners::{Corners, first_beyond};
+use samples::forms::{Sense, Version};
+use samples::refusals::{Reason, Refusal};
+use samples::streams::Stream;
+use samples::tests::{MOST, too_short};
 
 // The ring that a record means, at the front of the two outputs. A refusal alters neither.
-pub fn read_record(bytes: &[u8], east: &mut [i32], north: &mut [i32]) -> Counted
-    ensures answer { counted_as result ≡ counted (record_answer bytes.now east.old north.old) }
+pub fn read_record(bytes: &[u8], east: &mut [i32], north: &mut [i32]) -> Result<usize, Refusal>
+    ensures answer { answer_of result ≡ counted (record_answer bytes.now east.old north.old) }
     ensures east { east.new ≡ output_after easts (record_answer bytes.now east.old north.old) east.old }
     ensures north { north.new ≡ output_after norths (record_answer bytes.now east.old north.old) north.old }
 {
-    match frame(bytes) {
-        Tested::Passed => {}
-        Tested::Refused { number, place } => {
-            return Counted::Refused { number, place };
-        }
-    }
-    let start = 5 + sense_size(bytes[0]);
-    read_corners(sense(bytes), &bytes[start..], east, north)
+    let record = frame(bytes)?;
+    read_corners(record.sense, record.corners, east, north)
 }
 
-// The tests of the bytes around the corners: 17 if empty, 16, 17 for under 5 bytes, 21, 17 or 20, 22.
-fn frame(bytes: &[u8]) -> Tested
-    ensures { result ≡ tested_of (frame_tests bytes.now) }
+// What stands in a record whose frame is right: the sense, and the bytes of the corners.
+#[derive(Clone, Copy)]
+struct Framed<'a> {
+    sense: Sense,
+    corners: &'a [u8],
+}
+
+// A record's frame, by the tests of the bytes around the corners: 17 if empty, 16, 17 for under 5 bytes, 21, 17 or 20, 22.
+fn frame(bytes: &[u8]) -> Result<Framed, Refusal>
+    ensures { answer_as framed_as result ≡ unless (frame_tests bytes.now) (found bytes.now) }
 {
     if bytes.len() == 0 {
-        return Tested::Refused {
-            number: 17,
-            place: 0,
-        };
+        return Err(Reason::EndsEarly.into());
     }
-    if !known(bytes[0]) {
-        return Tested::Refused {
-            number: 16,
-            place: 0,
-        };
-    }
+    let version = Version::try_from(bytes[0])?;
     if bytes.len() < 5 {
-        return Tested::Refused {
-            number: 17,
-            place: bytes.len(),
-        };
+        return Err(Reason::EndsEarly.at(bytes.len()));
     }
     let rest = bytes.len() - 5;
     let said = word(bytes, 1) as usize;
-    if said % 8 != sense_size(bytes[0]) {
-        return Tested::Refused {
-            number: 21,
-            place: 1,
-        };
+    if said % 8 != version.sense_size() {
+        return Err(Reason::OddLength.at(1));
     }
     if rest < said {
-        return Tested::Refused {
-            number: 17,
-            place: 5 + rest,
-        };
+        return Err(Reason::EndsEarly.at(5 + rest));
     }
     if said < rest {
-        return Tested::Refused {
-            number: 20,
-            place: 5 + said,
-        };
+        return Err(Reason::BytesFollow.at(5 + said));
     }
-    if 1 < sense(bytes) {
-        return Tested::Refused {
-            number: 22,
-            place: 5,
-        };
+    let start = 5 + version.sense_size();
+    match sense(version, bytes) {
+        Ok(sense) => Ok(Framed {
+            sense,
+            corners: &bytes[start..],
+        }),
+        Err(reason) => Err(reason.at(5)),
     }
-    Tested::Passed
 }
 
 // What the record says of its sense; version 1 says nothing, and is going to.
-fn sense(bytes: &[u8]) -> u8
-    requires { head_size + size_of_sense (version bytes.now) ≤ length bytes.now }
-    ensures { result ≡ sense bytes.now }
+fn sense(of: Version, bytes: &[u8]) -> Result<Sense, Reason>
+    requires { (version bytes.now ≡ version_byte of) × (head_size + size_of_sense (version_byte of) ≤ length bytes.now) }
+    ensures { ReadsSense (sense bytes.now) result }
 {
-    if bytes[0] == 2 {
-        return bytes[5];
+    match of {
+        Version::First => Ok(Sense::GoingTo),
+        Version::Second => Sense::try_from(bytes[5]),
     }
-    0
+}
+
+// The corners that bytes have, 4 bytes east and 4 bytes north for each.
+#[derive(Clone, Copy)]
+struct Stored<'a> {
+    bytes: &'a [u8],
+}
+
+impl<'a> Corners for Stored<'a> {
+    ghost corners = { λ ring. corners_in ring.bytes.now };
+
+    fn count(&self) -> usize {
+        self.bytes.len() / 8
+    }
+
+    fn corner(&self, i: usize) -> Stream {
+        let at = 8 * i;
+        Stream {
+            east: part(self.bytes, at),
+            north: part(self.bytes, at + 4),
+        }
+    }
 }
 
 // The ring of corners that are stored in a sense, at the front of the two outputs, unless refused: 2, 3, 9, 5.
-fn read_corners(sense: u8, corners: &[u8], east: &mut [i32], north: &mut [i32]) -> Counted
-    ensures answer { counted_as result ≡ counted (corners_answer sense corners.now east.old north.old) }
-    ensures east { east.new ≡ output_after easts (corners_answer sense corners.now east.old north.old) east.old }
-    ensures north { north.new ≡ output_after norths (corners_answer sense corners.now east.old north.old) north.old }
+fn read_corners(
+    sense: Sense,
+    bytes: &[u8],
+    east: &mut [i32],
+    north: &mut [i32],
+) -> Result<usize, Refusal>
+    ensures { CornersRead (corners_answer (sense_byte sense) bytes.now east.old north.old) east.old north.old result east.new north.new }
 {
-    let n = corners.len() / 8;
+    let ring = Stored { bytes };
+    let n = ring.count();
     if MOST < n {
-        return Counted::Refused {
-            number: 2,
-            place: 0,
-        };
+        return Err(Reason::TooMany.into());
     }
-    let place = first_beyond(corners, n);
+    let place = first_beyond(&ring);
     if place < n {
-        return Counted::Refused { number: 3, place };
+        return Err(Reason::PartBeyond.at(place));
     }
-    if !is_envelope(corners, n) {
-        return Counted::Refused {
-            number: 9,
-            place: 0,
-        };
+    if !is_envelope(&ring) {
+        return Err(Reason::NotEnvelope.into());
     }
     if too_short(east.len(), north.len(), n) {
-        return Counted::Refused {
-            number: 5,
-            place: 0,
-        };
+        return Err(Reason::OutputShort.into());
     }
-    let about = sense == 1;
-    let first = first_corner(about, corners, n);
-    write(about, first, corners, n, east, north);
-    Counted::Count(n)
-}
-
-// The first place of a corner with a part beyond the limit; n where there is none.
-fn first_beyond(corners: &[u8], n: usize) -> usize
-    requires { n ≡ length (corners_in corners.now) }
-    ensures { result ≡ first_place beyond (corners_in corners.now) }
-{
-    let mut i = 0;
-    while i < n {
-        if beyond(corner(corners, i)) {
-            return i;
-        }
-        i += 1;
-    }
-    i
-}
-
-// The corners equal the ring of their own positions.
-fn is_envelope(corners: &[u8], n: usize) -> bool
-    requires { Passed corners.now n }
-    ensures { result ≡ envelope (corners_in corners.now) }
-{
-    if n < 2 {
-        return true;
-    }
-    let first = corner(corners, 0);
-    let second = corner(corners, 1);
-    if n == 2 {
-        return leftmost(first, second);
-    }
-    if first.east < second.east {
-        return goes_round(corners, n);
-    }
-    false
-}
-
-// From place 0 to place 1, over all corners and back to place 0.
-fn goes_round(corners: &[u8], n: usize) -> bool
-    requires { Passed corners.now n × (2 ≤ n) }
-    ensures { result ≡ round_from (corners_in corners.now) 2 }
-{
-    let mut i = 2;
-    while i < n {
-        if !turns(
-            corner(corners, i - 2),
-            corner(corners, i - 1),
-            corner(corners, i),
-        ) {
-            return false;
-        }
-        i += 1;
-    }
-    closes(
-        corner(corners, n - 2),
-        corner(corners, n - 1),
-        corner(corners, 0),
-    )
-}
-
-// The place of the corner with which the ring begins, as it is or turned about.
-fn first_corner(about: bool, corners: &[u8], n: usize) -> usize
-    requires { (n ≡ length (corners_in corners.now)) × (envelope (corners_in corners.now) ≡ true) }
-    ensures { Begins about (corners_in corners.now) result }
-{
-    if about {
-        return entry(corners, n);
-    }
-    0
-}
-
-// The first place of the corner with the greatest east and, among those, the least north.
-fn entry(corners: &[u8], n: usize) -> usize
-    requires { (n ≡ length (corners_in corners.now)) × (envelope (corners_in corners.now) ≡ true) }
-    ensures { Entry (corners_in corners.now) result }
-{
-    let mut best = 0;
-    let mut i = 1;
-    while i < n {
-        if leftmost(corner(corners, best), corner(corners, i)) {
-            best = i;
-        }
-        i += 1;
-    }
-    best
+    let about = sense == Sense::ComingFrom;
+    let first = first_corner(about, &ring);
+    write(about, first, &ring, east, north);
+    Ok(n)
 }
 
 // The corners, written, as they are or turned about.
-fn write(about: bool, first: usize, corners: &[u8], n: usize, east: &mut [i32], north: &mut [i32])
-    requires { Passed corners.now n × Begins about (corners_in corners.now) first × Room n east.old north.old }
-    ensures east { east.new ≡ written (easts (turned_if about (corners_in corners.now))) east.old }
-    ensures north { north.new ≡ written (norths (turned_if about (corners_in corners.now))) north.old }
+fn write(about: bool, first: usize, ring: &Stored, east: &mut [i32], north: &mut [i32])
+    requires near { CornersNear (corners_in ring.now.bytes.now) }
+    requires begins { Begins about (corners_in ring.now.bytes.now) first }
+    requires room { Room (length (corners_in ring.now.bytes.now)) east.old north.old }
+    ensures east { east.new ≡ written (easts (turned_if about (corners_in ring.now.bytes.now))) east.old }
+    ensures north { north.new ≡ written (norths (turned_if about (corners_in ring.now.bytes.now))) north.old }
 {
-    let mut i = 0;
-    while i < n {
-        let c = changed(about, corner(corners, place_after(first, i, n)));
-        let e = c.east;
-        let m = c.north;
-        east[i] = e;
-        north[i] = m;
-        i += 1;
+    for i in 0..ring.count() {
+        let c = turned_corner(about, first, ring, i);
+        east[i] = c.east;
+        north[i] = c.north;
     }
 }
 
-// The corner at place i: 4 bytes east and 4 bytes north.
-fn corner(corners: &[u8], i: usize) -> Stream
-    requires { i < length (corners_in corners.now) }
-    ensures { stream_of result ≡ sample (corners_in corners.now) i }
+// Four bytes in two's complement, the first the highest.
+fn part(bytes: &[u8], at: usize) -> i32
+    requires { at + 4 ≤ length bytes.now }
+    ensures { result ≡ twos (word bytes.now at) }
 {
-    let at = 8 * i;
-    Stream {
-        east: part(word(corners, at)),
-        north: part(word(corners, at + 4)),
-    }
+    i32::from_be_bytes([bytes[at], bytes[at + 1], bytes[at + 2], bytes[at + 3]])
 }
 
-// Two's complement.
-fn part(w: u32) -> i32
-    ensures { result ≡ twos w }
-{
-    if w < 2147483648 {
-        return w as i32;
-    }
-    ((w as i64) - 4294967296) as i32
-}
-
-// Four bytes, the first the highest.
+// Four bytes as a number, the first the highest.
 fn word(bytes: &[u8], at: usize) -> u32
     requires { at + 4 ≤ length bytes.now }
     ensures { result ≡ word bytes.now at }
 {
-    let a = bytes[at] as u32;
-    let b = bytes[at + 1] as u32;
-    let c = bytes[at + 2] as u32;
-    let d = bytes[at + 3] as u32;
-    ((a * 256 + b) * 256 + c) * 256 + d
+    u32::from_be_bytes([bytes[at], bytes[at + 1], bytes[at + 2], bytes[at + 3]])
 }

@@ -13,6 +13,7 @@ use Rattle.rules.specs.Lists.{some_of}
 use Rattle.rules.specs.Streams.{Stream, streams, sample, same}
 use Rattle.rules.specs.Chain.{Of, UpperChain, empty, starts, upper, lower, lowest, upper_numbers, lower_numbers}
 use Rattle.rules.specs.Ring.{closed, ring}
+use Rattle.rules.specs.Refusals.{done}
 use Rattle.rules.specs.Entries.{sample_tests}
 use Rattle.laws_outline.specs.ListLaws.{at_place_in, is_some_of, first_place_in, first_place_passes}
 use Rattle.laws_outline.specs.SamePosition.{same_equal, equal_same}
@@ -22,9 +23,8 @@ use Rattle.samples.specs.Samples.{read_near, streams-length}
 use Rattle.laws_stack.specs.Places.{listed, length-listed, listed-alike}
 use Rattle.walk.specs.TwoRings.{Corners, both, count}
 use Rattle.closing.specs.TwoChains.{Both, upper_at, lower_at}
-use Rattle.samples.specs.Tests.{tested_of, passed_tests, sampled_few}
-use Rattle.samples.specs.declared.tests.Tested.TheVariants.{Passed}
-use Rattle.chains.specs.BothSides.{BothAre}
+use Rattle.samples.specs.InOrder.{passed_tests, sampled_few}
+use Rattle.chains.specs.BothSides.{BothAre, tested}
 
 -- ---- corners by their numbers
 
@@ -79,9 +79,9 @@ module _ (es ns : List ℤ) where
   alone = append-nil xs
 
   -- samples that passed their tests
-  pub samples-corners : (scratch : List ℕ) → tested_of (sample_tests es ns scratch) ≡ Passed → Corners es ns [] []
+  pub samples-corners : (scratch : List ℕ) → tested es ns scratch ≡ done tt → Corners es ns [] []
   samples-corners scratch e =
-      let s = sampled_few es ns (drop 3 (sample_tests es ns scratch)) (passed_tests (sample_tests es ns scratch) e) in
+      let s = sampled_few es ns (drop 3 (sample_tests es ns scratch)) (passed_tests tt (sample_tests es ns scratch) e) in
       record {
         even = s.0.even;
         even2 = refl;

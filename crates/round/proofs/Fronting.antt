@@ -104,17 +104,18 @@ module _ (at : ℕ → Stream) (t : Tops) (given : List ℕ) where
         }
 
     -- an odd last one is left
-    pub fronting_odd : i < length given → length given ≤ i + 1 → KeptFront at t given (out + 1) (set w out (get_or w i 0))
+    pub fronting_odd : {last : ℕ} → last ≡ i → length given ≡ i + 1 → KeptFront at t given (out + 1) (set w out (get_or w last 0))
     unfolding keep paired
-    fronting_odd h k =
+    fronting_odd {last} e h =
         let a = g.behind in
         let l = g.long in
-        let last = drop-cons given i 0 h ∙ ap (λ (l : List ℕ). get_or given i 0 ∷ l) (drop_of_length-le given {i = suc i} (omega arith)) in
+        let end = drop-cons given i 0 (omega arith) ∙ ap (λ (l : List ℕ). get_or given i 0 ∷ l) (drop_of_length-le given {i = suc i} (omega arith)) in
+        let same = ap (λ (k : ℕ). get_or w k 0) e ∙ here in
         record {
           front =
-              stored w out (get_or w i 0) true (omega arith)
-              ∙ ap (λ (m : ℕ). take out w ++ (m ∷ [])) here
-              ∙ ap (λ (l : List ℕ). take out w ++ keep at t (paired l)) (sym last)
+              stored w out (get_or w last 0) true (omega arith)
+              ∙ ap (λ (m : ℕ). take out w ++ (m ∷ [])) same
+              ∙ ap (λ (l : List ℕ). take out w ++ keep at t (paired l)) (sym end)
               ∙ g.front;
           fewer = omega arith;
         }

@@ -7,7 +7,7 @@ use borrow.Author.Rules.{sfits_of}
 use lib.Dec.{ltb→lt}
 use lib.Signed.{mag, non_neg}
 use mir.Syntax.{w32, w64}
-use mir.Val.{Fits, SFits, to_z, of_z}
+use mir.Val.{Fits, to_z, of_z}
 use mir.Facts.{to_z-of_z}
 use Rattle.whole.specs.Solver.{Ex, var, num, ◌⊖◌, ◌⊗◌, eval}
 use Rattle.whole.specs.Fits.{Within, Leaves, Bounded, []ʷ, ◌∷ʷ◌, ◌∷ᶜ◌, read, read-within, value-within, bound, safe, word, word-is, word-within}
@@ -15,8 +15,16 @@ use Rattle.rules.specs.Streams.{Stream}
 use Rattle.rules.specs.Round.{Slope, height}
 use Rattle.slopes.specs.Fractions as fractions
 use Rattle.samples.specs.Positions.{Near}
+use Rattle.samples.specs.Samples.{near_at}
+use Rattle.samples.specs.Sides.{seen}
 use Rattle.samples.specs.StreamWords.{held}
-use Rattle.round.specs.Tops.{spread, slope_by, scaled, Scaled}
+use Rattle.samples.specs.declared.sides.Side.{Side}
+use Rattle.round.specs.declared.scaled.Scaled.{Scaled}
+use Rattle.round.specs.Tops.{spread, slope_by, scaled, as_scaled}
+
+-- every sample of a side is near
+pub near_side : (s : Side) (x : ℕ) → Near (seen s x)
+near_side s x = near_at s.samples.sampled s.lower x
 
 -- a number that fits 64 bits is what its word is read as
 pub word_of : (z : ℤ) → mag z < 2 ^ 63 → to_z w64 (of_z w64 z) ≡ z
@@ -36,32 +44,24 @@ scaled_words K = slope_by (word w64 (read w32 K.rise ∷ []) times) (word w64 (r
 pub scaled-is : {K : Slope} → fractions.Near K → scaled_words K ≡ scaled K
 scaled-is h = ap₂ slope_by (word-is w64 (slope_leaf h.rise_near) times tt) (word-is w64 (slope_leaf h.run_near) times tt)
 
-pub scaled_near : {K : Slope} → fractions.Near K → Scaled (scaled_words K)
-scaled_near h =
-    record {
-      rise_near = word-within w64 (slope_leaf h.rise_near) times tt;
-      run_near = word-within w64 (slope_leaf h.run_near) times tt;
-    }
-
--- rise and run, each handed on as a word
-pub handed : {a b : ℤ} → SFits w64 a → SFits w64 b → slope_by (read w64 a) (read w64 b) ≡ slope_by a b
-handed h k = ap₂ slope_by (to_z-of_z h) (to_z-of_z k)
+pub times_near : {z : ℤ} → Within z 2000000 → Within (word w64 (read w32 z ∷ []) times) 4000002000000
+times_near h = word-within w64 (slope_leaf h) times tt
 
 -- a scaled run and rise, and a position's north and east, each read from a word of 32 bits
-pub height_leaves : {p : Stream} {k : Slope} → Near p × Scaled k
+pub height_leaves : {p : Stream} (k : Scaled) → Near p
     → Leaves
     (k.run ∷ read w32 p.north ∷ k.rise ∷ read w32 p.east ∷ [])
     (k.run ∷ p.north ∷ k.rise ∷ p.east ∷ [])
     (4000002000000 ∷ 1000000 ∷ 4000002000000 ∷ 1000000 ∷ [])
-height_leaves (h, k) = k.run_near ∷ʷ held h.north_near ∷ᶜ k.rise_near ∷ʷ held h.east_near ∷ᶜ []ʷ
+height_leaves k h = k.run_near ∷ʷ held h.north_near ∷ᶜ k.rise_near ∷ʷ held h.east_near ∷ᶜ []ʷ
 
 -- the height
 abbrev pub high : Ex
 high = var 0 ⊗ var 1 ⊖ var 2 ⊗ var 3
 
-pub height_near : {p : Stream} {k : Slope} → Near p × Scaled k → Within (height k p) 8000004000000000000
+pub height_near : {p : Stream} (k : Scaled) → Near p → Within (height (as_scaled k) p) 8000004000000000000
 unfolding height
-height_near h = value-within (height_leaves h) high
+height_near k h = value-within (height_leaves k h) high
 
 -- two positions: the east and the north of the first, and those of the second
 abbrev pub parts : Stream → Stream → List ℤ

@@ -5,7 +5,7 @@ use Rattle.rules.specs.Lists.{consIf}
 use Rattle.rules.specs.Streams.{Stream}
 use Rattle.rules.specs.Round.{Slope, Tops, west, east, paired, keep}
 use Rattle.slopes.specs.Fractions.{Near}
-use Rattle.samples.specs.Positions.{Sampled, Listed}
+use Rattle.samples.specs.Positions.{Listed}
 
 -- how much steeper than K the way from p to q is, times K's run and the way's
 abbrev pub excess : Slope → Stream → Stream → ℤ
@@ -19,17 +19,15 @@ towards b K = cond b (west K) (east K)
 abbrev pub chosen : Bool → Bool → ℕ → ℕ → List ℕ
 chosen first second x y = consIf first x (consIf second y [])
 
--- a pair of samples and a slope
-pub record PairAsks (es ns : List ℤ) (x y : ℕ) (K : Slope) : Type 0 where
-  pub sampled : Sampled es ns
-  pub first_below : x < length es
-  pub second_below : y < length es
+-- a pair of so many samples and a slope
+pub record PairAsks (count x y : ℕ) (K : Slope) : Type 0 where
+  pub first_below : x < count
+  pub second_below : y < count
   pub near : Near K
 
--- a list of samples and a slope
-pub record KeepAsks (es ns : List ℤ) (list : List ℕ) (K : Slope) : Type 0 where
-  pub sampled : Sampled es ns
-  pub listed : Listed (length es) list
+-- a list of so many samples and a slope
+pub record KeepAsks (count : ℕ) (list : List ℕ) (K : Slope) : Type 0 where
+  pub listed : Listed count list
   pub near : Near K
 
 -- what the pairs keep lies at the front, m numbers

@@ -1,15 +1,16 @@
 -- The promise of the round: its answer, and what it leaves of all that is lent, as the rules have them.
 -- Assumes nothing.
-use Rattle.std.specs.Prelude.{◌≡◌, ℕ, ◌+◌, ◌*◌, not, ◌||◌, List, [], ◌∷◌, map, length, ℤ, nat_le, nat_lt}
+use Rattle.std.specs.Prelude.{◌≡◌, ℕ, ◌+◌, ◌*◌, not, ◌||◌, List, [], ◌∷◌, map, length, ℤ, nat_le, nat_lt, Result}
 use Rattle.rules.specs.Lists.{some_of, first_place}
 use Rattle.rules.specs.Streams.{streams, sample, most}
 use Rattle.rules.specs.Bridge.{Bridge, ends, spans}
 use Rattle.rules.specs.Round as rules
 use Rattle.rules.specs.Refusals.{Answer, refused, done, Test, test, unless, lengths_differ, part_beyond, output_short, output_after, scratch_after}
 use Rattle.rules.specs.Entries.{kept_list, round_answer}
-use Rattle.round.specs.declared.RoundAnswer.{RoundAnswer}
-use Rattle.round.specs.declared.RoundAnswer.TheVariants.{Found, Kept, Refused}
+use Rattle.samples.specs.Answers.{answer_as}
+use Rattle.samples.specs.declared.refusals.Refusal.{Refusal}
 use Rattle.round.specs.declared.turn.Said.{Said}
+use Rattle.round.specs.declared.turn.Said.TheVariants.{Found, Kept}
 use Rattle.round.specs.Saying.{said_as}
 
 -- what an answer tells: the bridge, or how many numbers are kept, which lie in the output
@@ -17,11 +18,10 @@ pub data Told : Type 0 where
   bridge_of : Bridge ℕ → Told
   count_of : ℕ → Told
 
--- the rules' answer for each case of the enum
-abbrev pub answer_as : RoundAnswer → Answer Told
-answer_as (Found i j) = done (bridge_of (ends i j))
-answer_as (Kept m) = done (count_of m)
-answer_as (Refused number place) = refused number place
+-- what is told by each case of the enum
+abbrev pub told_by : Said → Told
+told_by (Found i j) = bridge_of (ends i j)
+told_by (Kept m) = count_of m
 
 abbrev pub told : rules.Said ℕ → Told
 told (rules.found b) = bridge_of b
@@ -37,10 +37,10 @@ pub record RoundPromise
     (list : List ℕ)
     (a : ℤ)
     (output scratch : List ℕ)
-    (r : RoundAnswer)
+    (r : Result Said Refusal)
     (output_left scratch_left : List ℕ)
     : Type 0 where
-  pub answer : answer_as r ≡ telling (round_answer es ns list a output scratch)
+  pub answer : answer_as told_by r ≡ telling (round_answer es ns list a output scratch)
   pub output_is : output_left ≡ output_after kept_list (round_answer es ns list a output scratch) output
   pub scratch-is : scratch_left ≡ scratch_after (round_answer es ns list a output scratch) scratch
 
@@ -58,11 +58,11 @@ round_tests es ns list a room =
     ∷ []
 
 -- the test for 5 of what is said
-abbrev pub answer_of : rules.Said ℕ → List ℕ → Answer (rules.Said ℕ)
-answer_of said output = unless (output_short (nat_lt (length output) (length (kept_list said))) ∷ []) said
+abbrev pub output_answer : rules.Said ℕ → List ℕ → Answer (rules.Said ℕ)
+output_answer said output = unless (output_short (nat_lt (length output) (length (kept_list said))) ∷ []) said
 
 -- of what a round has said, with the kept list at the front of scratch: the answer, the output and the scratch
-pub record Answered (said : Said) (output scratch : List ℕ) (r : RoundAnswer) (output_left scratch_left : List ℕ) : Type 0 where
-  pub answer : answer_as r ≡ telling (answer_of (said_as said scratch) output)
-  pub output_is : output_left ≡ output_after kept_list (answer_of (said_as said scratch) output) output
-  pub scratch-is : scratch_left ≡ scratch_after (answer_of (said_as said scratch) output) scratch
+pub record Answered (said : Said) (output scratch : List ℕ) (r : Result Said Refusal) (output_left scratch_left : List ℕ) : Type 0 where
+  pub answer : answer_as told_by r ≡ telling (output_answer (said_as said scratch) output)
+  pub output_is : output_left ≡ output_after kept_list (output_answer (said_as said scratch) output) output
+  pub scratch-is : scratch_left ≡ scratch_after (output_answer (said_as said scratch) output) scratch

@@ -5,7 +5,7 @@ use Rattle.rules.specs.Streams.{Stream}
 use Rattle.rules.specs.Bridge.{ends}
 use Rattle.rules.specs.Round as rules
 use Rattle.slopes.specs.Fractions.{Near}
-use Rattle.samples.specs.Positions.{Sampled, Listed}
+use Rattle.samples.specs.Positions.{Listed}
 use Rattle.round.specs.declared.turn.Said.{Said}
 use Rattle.round.specs.declared.turn.Said.TheVariants.{Found, Kept}
 
@@ -20,9 +20,8 @@ kept_count (Found i j) = 0
 kept_count (Kept m) = m
 
 -- a list of t samples, two or more, at the front of w, with room behind it for the slopes of its pairs and for picking among these
-pub record RoundAsks (es ns : List ℤ) (w : List ℕ) (t : ℕ) : Type 0 where
-  pub sampled : Sampled es ns
-  pub listed : Listed (length es) (take t w)
+pub record RoundAsks (count : ℕ) (w : List ℕ) (t : ℕ) : Type 0 where
+  pub listed : Listed count (take t w)
   pub two : 2 ≤ t
   pub room : 3 * t ≤ length w
 
@@ -32,9 +31,8 @@ pub record RoundSays (at : ℕ → Stream) (a : ℤ) (w : List ℕ) (t : ℕ) (s
   pub fewer : kept_count said ≤ t
 
 -- the same with K
-pub record FinishAsks (es ns : List ℤ) (w : List ℕ) (t : ℕ) (K : rules.Slope) : Type 0 where
-  pub sampled : Sampled es ns
-  pub listed : Listed (length es) (take t w)
+pub record FinishAsks (count : ℕ) (w : List ℕ) (t : ℕ) (K : rules.Slope) : Type 0 where
+  pub listed : Listed count (take t w)
   pub one : 1 ≤ t
   pub room : t ≤ length w
   pub near : Near K

@@ -1,11 +1,11 @@
 -- The slopes of the pairs of a list, as words behind it.
 -- Assumes nothing.
-use Rattle.std.specs.Prelude.{◌≡◌, ℕ, ◌*◌, ◌≤◌, cond, List, length, take, drop, ℤ, nat_lt}
+use Rattle.std.specs.Prelude.{◌≡◌, ℕ, ◌*◌, ◌≤◌, cond, List, length, take, drop, nat_lt}
 use Rattle.std.proofs.Math.Option.{none, some}
 use Rattle.rules.specs.Streams.{Stream}
 use Rattle.rules.specs.Round.{pair, paired, slope_of, slopes}
 use Rattle.slopes.specs.Fractions.{fraction, fractions, Sound}
-use Rattle.samples.specs.Positions.{Sampled, Listed}
+use Rattle.samples.specs.Positions.{Listed}
 
 -- the words of the slope of two positions, ordered by east; the run is 0 where they have none
 pub record PairSlope (p q : Stream) (rise run : ℕ) : Type 0 where
@@ -14,9 +14,8 @@ pub record PairSlope (p q : Stream) (rise run : ℕ) : Type 0 where
   pub is : slope_of (λ s. s) (pair p q) ≡ cond (nat_lt 0 run) (some (fraction rise run)) none
 
 -- a list of t samples at the front of w, with room for its slopes behind it
-pub record SlopesAsk (es ns : List ℤ) (w : List ℕ) (t : ℕ) : Type 0 where
-  pub sampled : Sampled es ns
-  pub listed : Listed (length es) (take t w)
+pub record SlopesAsk (count : ℕ) (w : List ℕ) (t : ℕ) : Type 0 where
+  pub listed : Listed count (take t w)
   pub room : 2 * t ≤ length w
 
 -- the q slopes of its pairs stand behind the list, which is as it was

@@ -1,14 +1,14 @@
 -- The tops of a list: the keys by which they are found, what the code asks and what its struct says.
 -- Assumes nothing.
 use Rattle.std.specs.Prelude.{◌≡◌, ℕ, ◌+◌, ◌<◌, ◌≤◌, Bool, cond, List, length, drop, ℤ, pos, ◌+ℤ◌, ◌*ℤ◌, neg_ℤ, int_le, int_lt, nat_lt, slice_index}
-use Rattle.whole.specs.Fits.{Within}
 use Rattle.rules.specs.Lists.{first_place, best_from}
 use Rattle.rules.specs.Streams.{Stream}
 use Rattle.rules.specs.Round.{Slope, height, left_top, right_top}
 use Rattle.slopes.specs.Fractions.{Near}
-use Rattle.samples.specs.Positions.{Sampled, Listed}
+use Rattle.samples.specs.Positions.{Listed}
+use Rattle.round.specs.declared.scaled.Scaled.{Scaled}
+use Rattle.round.specs.declared.scaled.Keys.{Keys}
 use Rattle.round.specs.declared.tops.Top.{Top}
-use Rattle.round.specs.declared.tops.Keys.{Keys}
 use Rattle.round.specs.declared.tops.Tops.{Tops}
 
 -- more than two easts can differ by
@@ -23,10 +23,9 @@ slope_by a b = record { rise = a; run = b }
 abbrev pub scaled : Slope → Slope
 scaled k = slope_by (k.rise *ℤ pos spread) (k.run *ℤ pos spread)
 
--- the rise and the run are within 2,000,000 times the spread
-pub record Scaled (k : Slope) : Type 0 where
-  pub rise_near : Within k.rise 4000002000000
-  pub run_near : Within k.run 4000002000000
+-- the slope that the code holds scaled
+abbrev pub as_scaled : Scaled → Slope
+as_scaled s = slope_by s.rise s.run
 
 -- the key of a position by a scaled slope: its height and its east, as a side counts the east. The height decides, and between equal heights the east
 abbrev pub key : (ℤ → ℤ) → Slope → Stream → ℤ
@@ -49,17 +48,14 @@ reaches at k top x = int_le (height k (at top)) (height k (at x))
 abbrev pub next_place : (ℕ → Stream) → Slope → ℕ → List ℕ → ℕ → ℕ
 next_place at k top list i = i + cond (nat_lt (length list) 100) 0 (first_place (reaches at k top) (drop i list))
 
--- a list of samples, a sample, and a scaled slope
-pub record ReachAsks (es ns : List ℤ) (list : List ℕ) (top : ℕ) (k : Slope) : Type 0 where
-  pub sampled : Sampled es ns
-  pub listed : Listed (length es) list
-  pub given : top < length es
-  pub near : Scaled k
+-- a list of samples, and a sample
+pub record ReachAsks (count : ℕ) (list : List ℕ) (top : ℕ) : Type 0 where
+  pub listed : Listed count list
+  pub given : top < count
 
 -- a list of samples, not empty, and a slope
-pub record TopsAsk (es ns : List ℤ) (list : List ℕ) (K : Slope) : Type 0 where
-  pub sampled : Sampled es ns
-  pub listed : Listed (length es) list
+pub record TopsAsk (count : ℕ) (list : List ℕ) (K : Slope) : Type 0 where
+  pub listed : Listed count list
   pub some : 1 ≤ length list
   pub near : Near K
 

@@ -3,11 +3,13 @@ ghost use Rattle.std.specs.Prelude.{◌≡◌, ◌<◌};
 ghost use Rattle.rules.specs.Round.{pair, keeps};
 ghost use Rattle.slopes.specs.Fractions.{as_slope};
 ghost use Rattle.slopes.specs.Fractions as fractions;
-ghost use Rattle.samples.specs.Positions.{Near, at};
+ghost use Rattle.samples.specs.Positions.{Near};
 ghost use Rattle.samples.specs.HeldStream.{stream_of};
+ghost use Rattle.samples.specs.Sides.{size, seen};
 ghost use Rattle.round.specs.Keeping.{excess, towards, chosen, PairAsks, KeepAsks, KeptFront};
 
-use samples::streams::{Stream, position_of};
+use samples::sides::Side;
+use samples::streams::Stream;
 use slopes::Slope;
 
 // Which of a pair are kept.
@@ -27,12 +29,12 @@ fn excess(p: Stream, q: Stream, k: Slope) -> i64
 }
 
 // What a pair keeps where the tops lie west, all at most a, or else all above a.
-fn of_pair(e: &[i32], n: &[i32], lower: bool, x: u32, y: u32, k: Slope, west: bool) -> Keeps
-    requires { PairAsks e.now n.now x y (as_slope k) }
-    ensures { keeps (at e.now n.now lower) (towards west (as_slope k)) (pair x y) ≡ chosen result.first result.second x y }
+fn of_pair(side: Side, x: u32, y: u32, k: Slope, west: bool) -> Keeps
+    requires { PairAsks (size side) x y (as_slope k) }
+    ensures { keeps (seen side.entry) (towards west (as_slope k)) (pair x y) ≡ chosen result.first result.second x y }
 {
-    let p = position_of(e, n, x, lower);
-    let q = position_of(e, n, y, lower);
+    let p = side.position(x);
+    let q = side.position(y);
     let c = excess(p, q, k);
     let d = q.east as i64 - p.east as i64;
     // how far the second stands beyond the first, seen from the tops
@@ -45,25 +47,23 @@ fn of_pair(e: &[i32], n: &[i32], lower: bool, x: u32, y: u32, k: Slope, west: bo
 }
 
 // Keeps at the front of the list what its pairs keep, in list order, and says how many they are. Both of a pair are stored, and the place moves on by
-// the tests. An odd last one is kept.
-pub fn keep(e: &[i32], n: &[i32], lower: bool, w: &mut [u32], k: Slope, west: bool) -> usize
-    requires { KeepAsks e.now n.now w.old (as_slope k) }
-    ensures { KeptFront (at e.now n.now lower) (towards west (as_slope k)) w.old result w.new }
+// the tests. An odd last one is kept. What is kept is written over the list that is read, so no `chunks` of it can be held.
+pub fn keep(side: Side, w: &mut [u32], k: Slope, west: bool) -> usize
+    requires { KeepAsks (size side) w.old (as_slope k) }
+    ensures { KeptFront (seen side.entry) (towards west (as_slope k)) w.old result w.new }
 {
     let mut out: usize = 0;
-    let mut i = 0;
-    while i + 1 < w.len() {
-        let x = w[i];
-        let y = w[i + 1];
-        let g = of_pair(e, n, lower, x, y, k, west);
+    for i in 0..w.len() / 2 {
+        let x = w[2 * i];
+        let y = w[2 * i + 1];
+        let g = of_pair(side, x, y, k, west);
         w[out] = x;
         out += g.first as usize;
         w[out] = y;
         out += g.second as usize;
-        i += 2;
     }
-    if i < w.len() {
-        w[out] = w[i];
+    if w.len() % 2 == 1 {
+        w[out] = w[w.len() - 1];
         out += 1;
     }
     out

@@ -1,104 +1,72 @@
-// A round of the bridge finder.
+// A round of the bridge finder. Easts and norths come as two lent lists: the C interface, and the form that the rules fix.
 #![tactic(auto)]
 
 mod keep;
 mod pairs;
+mod scaled;
 mod tops;
 pub mod turn;
 
 ghost use Rattle.std.specs.Prelude.{◌≡◌, ◌≤◌, length};
-ghost use Rattle.samples.specs.Tests.{tested_of};
+ghost use Rattle.rules.specs.Refusals.{unless};
+ghost use Rattle.samples.specs.Answers.{answer_of};
 ghost use Rattle.round.specs.Saying.{kept_count};
 ghost use Rattle.round.specs.Promise.{round_tests, Answered, RoundPromise};
 
 use self::turn::{Said, round_of};
-use samples::tests::{MOST, Tested, first_beyond, first_unlisted, list_spans};
-use samples::words::{clear, write};
-
-// The answer of a round: the two ends of the bridge, left first; or how many numbers it keeps, which lie in the output; or a refusal's number and place.
-#[derive(Clone, Copy)]
-pub enum RoundAnswer {
-    Found { left: u32, right: u32 },
-    Kept(usize),
-    Refused { number: u32, place: usize },
-}
+use samples::corners::{Lists, first_beyond};
+use samples::listed::Samples;
+use samples::refusals::{Reason, Refusal};
+use samples::sides::Side;
+use samples::tests::{MOST, first_unlisted, list_spans};
 
 // The tests of a round before 5, with so many words of scratch: 1, 2, 3, 7, 4, 6.
-fn tested(east: &[i32], north: &[i32], list: &[u32], a: i64, room: usize) -> Tested
-    ensures { result ≡ tested_of (round_tests east.now north.now list.now a room) }
+// Not `Samples::tested`: here 2 counts the list items too, before 3.
+fn tested(east: &[i32], north: &[i32], list: &[u32], a: i64, room: usize) -> Result<(), Refusal>
+    ensures { answer_of result ≡ unless (round_tests east.now north.now list.now a room) tt }
 {
     let count = east.len();
     if count != north.len() {
-        return Tested::Refused {
-            number: 1,
-            place: 0,
-        };
+        return Err(Reason::LengthsDiffer.into());
     }
-    if MOST < count {
-        return Tested::Refused {
-            number: 2,
-            place: 0,
-        };
+    if MOST < count || MOST < list.len() {
+        return Err(Reason::TooMany.into());
     }
-    if MOST < list.len() {
-        return Tested::Refused {
-            number: 2,
-            place: 0,
-        };
-    }
-    let place = first_beyond(east, north);
+    let place = first_beyond(&Lists { east, north });
     if place < count {
-        return Tested::Refused { number: 3, place };
+        return Err(Reason::PartBeyond.at(place));
     }
     let unlisted = first_unlisted(list, count);
     if unlisted < list.len() {
-        return Tested::Refused {
-            number: 7,
-            place: unlisted,
-        };
+        return Err(Reason::Unlisted.at(unlisted));
     }
     if room < 16 * list.len() + 64 {
-        return Tested::Refused {
-            number: 4,
-            place: 0,
-        };
+        return Err(Reason::ScratchShort.into());
     }
     if !list_spans(east, list, a) {
-        return Tested::Refused {
-            number: 6,
-            place: 0,
-        };
+        return Err(Reason::NotSpanned.into());
     }
-    Tested::Passed
+    Ok(())
 }
 
 // Writes what is kept, at the front of scratch, to the output if it fits, and clears the scratch.
-fn answered(said: Said, output: &mut [u32], scratch: &mut [u32]) -> RoundAnswer
+fn answered(said: Said, output: &mut [u32], scratch: &mut [u32]) -> Result<Said, Refusal>
     requires { kept_count said ≤ length scratch.old }
     ensures { Answered said output.old scratch.old result output.new scratch.new }
 {
-    match said {
-        Said::Found { left, right } => {
-            clear(scratch);
-            RoundAnswer::Found { left, right }
+    if let Said::Kept(m) = said {
+        if output.len() < m {
+            scratch.fill(0);
+            return Err(Reason::OutputShort.into());
         }
-        Said::Kept(m) => {
-            if output.len() < m {
-                clear(scratch);
-                return RoundAnswer::Refused {
-                    number: 5,
-                    place: 0,
-                };
-            }
-            write(&scratch[..m], output);
-            clear(scratch);
-            RoundAnswer::Kept(m)
-        }
+        output[..m].copy_from_slice(&scratch[..m]);
     }
+    scratch.fill(0);
+    Ok(said)
 }
 
-// A round of the list at a: the bridge, or the kept numbers in list order at the front of the output. The scratch has at least 16 words for each list
-// item and 64 more.
+// A round of the list at a: the two ends of the bridge, or how many numbers are kept, which lie in list order at the front of the output. The scratch has at
+// least 16 words for each list item and 64 more.
 pub fn round(
     east: &[i32],
     north: &[i32],
@@ -106,16 +74,16 @@ pub fn round(
     a: i32,
     output: &mut [u32],
     scratch: &mut [u32],
-) -> RoundAnswer
+) -> Result<Said, Refusal>
     ensures { RoundPromise east.now north.now list.now a output.old scratch.old result
         output.new scratch.new }
 {
-    match tested(east, north, list, a as i64, scratch.len()) {
-        Tested::Refused { number, place } => RoundAnswer::Refused { number, place },
-        Tested::Passed => {
-            write(list, scratch);
-            let said = round_of(east, north, false, a as i64, scratch, list.len());
-            answered(said, output, scratch)
-        }
-    }
+    tested(east, north, list, a as i64, scratch.len())?;
+    scratch[..list.len()].copy_from_slice(list);
+    let side = Side {
+        samples: Samples { east, north },
+        lower: false,
+    };
+    let said = round_of(side, a as i64, scratch, list.len());
+    answered(said, output, scratch)
 }

@@ -1,9 +1,12 @@
-pub mod CountedAnswers
 pub mod HeldStream
 pub mod StreamWords
 pub mod Positions
 pub mod Scans
 pub mod Samples
-pub mod Tests
+pub mod Answers
+pub mod InOrder
+pub mod Listed
+pub mod Sides
+pub mod Forms
 pub mod Outputs
 pub mod Placed

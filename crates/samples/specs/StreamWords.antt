@@ -1,9 +1,10 @@
 -- What the code computes with: each part of a near stream is read from a word of 32 bits as it is, and is within the limit. Two words are equal
 -- exactly if their numbers are. Assumes nothing.
 use Rattle.std.specs.Prelude.{◌≡◌, refl, Bool, true, false, [], ◌∷◌, ◌^◌, ◌<◌, eqb, ℤ}
-use Rattle.std.proofs.Common.{sym, ap, ◌∙◌, eqb-true, to_z-of_z}
+use Rattle.std.proofs.Common.{sym, ap, ◌∙◌, eqb-true, int_eq, to_z-of_z}
 use Rattle.std.specs.Int.Signed.{mag}
-use Rattle.std.proofs.lemmas.Bool.{eqb-false}
+use Rattle.std.proofs.lemmas.Bool.{eqb-false, false≢true}
+use Rattle.std.proofs.lemmas.Bool.Decides.{Decides-int_eq}
 use Rattle.std.specs.Int.{Width, w32}
 use mir.Val.{SFits, to_z, of_z, hbits}
 use Rattle.whole.specs.Laws.{eqZ, eq_test, ne_test}
@@ -28,6 +29,14 @@ words_equal w y z h k = go (eqb (of_z w y) (of_z w z)) refl
     go : (b : Bool) → eqb (of_z w y) (of_z w z) ≡ b → b ≡ eqZ y z
     go true e = sym (eq_test {a = y} {b = z} (sym (to_z-of_z (record { sfits = h })) ∙ ap (to_z w) (eqb-true (of_z w y) (of_z w z) e) ∙ to_z-of_z (record { sfits = k })))
     go false e = sym (ne_test {a = y} {b = z} (λ q. eqb-false (of_z w y) (of_z w z) e (ap (of_z w) q)))
+
+-- the library's test of two numbers is the rules'
+pub numbers_equal : (y z : ℤ) → int_eq y z ≡ eqZ y z
+numbers_equal y z = go (int_eq y z) refl
+  where
+    go : (b : Bool) → int_eq y z ≡ b → b ≡ eqZ y z
+    go true e = sym (eq_test {a = y} {b = z} ((Decides-int_eq y z).0 e))
+    go false e = sym (ne_test {a = y} {b = z} (λ q. false≢true (sym e ∙ (Decides-int_eq y z).1 q)))
 
 -- the parts of two streams, and of three, as the leaves of an expression
 pub two_near : {p q : Stream} → Near p × Near q →

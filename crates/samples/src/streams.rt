@@ -12,7 +12,7 @@ ghost use Rattle.samples.specs.HeldStream.{stream_of};
 const LIMIT: i32 = 1000000;
 
 // A stream: an east part and a north part.
-#[derive(Clone, Copy)]
+#[derive(Clone, Copy, PartialEq, Eq)]
 pub struct Stream {
     pub east: i32,
     pub north: i32,
@@ -34,21 +34,10 @@ pub fn faced(lower: bool, s: Stream) -> Stream
     requires { Near (stream_of s) }
     ensures { stream_of result ≡ facing lower (stream_of s) }
 {
-    if lower {
-        return Stream {
-            east: s.east,
-            north: -s.north,
-        };
+    Stream {
+        east: s.east,
+        north: if lower { -s.north } else { s.north },
     }
-    s
-}
-
-// The position of sample x as a side sees it.
-pub fn position_of(e: &[i32], n: &[i32], x: u32, lower: bool) -> Stream
-    requires { Sampled e.now n.now × (x < length e.now) }
-    ensures { stream_of result ≡ at e.now n.now lower x }
-{
-    faced(lower, at(e, n, x as usize))
 }
 
 // The east of sample x, the same for either side.
@@ -63,30 +52,21 @@ pub fn east(e: &[i32], x: u32) -> i64
 pub fn part_beyond(x: i32) -> bool
     ensures { result ≡ not (within x) }
 {
-    if x < -LIMIT {
-        return true;
-    }
-    LIMIT < x
+    (x < -LIMIT) | (LIMIT < x)
 }
 
 // A stream with a part beyond the limit.
 pub fn beyond(s: Stream) -> bool
     ensures { result ≡ beyond (stream_of s) }
 {
-    if part_beyond(s.east) {
-        return true;
-    }
-    part_beyond(s.north)
+    part_beyond(s.east) | part_beyond(s.north)
 }
 
 // p and q stand at one position.
 pub fn same(p: Stream, q: Stream) -> bool
     ensures { result ≡ same (stream_of p) (stream_of q) }
 {
-    if p.east == q.east {
-        return p.north == q.north;
-    }
-    false
+    p == q
 }
 
 // The side of r seen on the way from p to q: above zero on the left, below zero on the right.
@@ -135,11 +115,5 @@ pub fn set_on(course: Stream, s: Stream) -> i64
 pub fn leftmost(p: Stream, q: Stream) -> bool
     ensures { result ≡ leftmost (stream_of p) (stream_of q) }
 {
-    if p.east < q.east {
-        return true;
-    }
-    if p.east == q.east {
-        return q.north < p.north;
-    }
-    false
+    (p.east < q.east) | ((p.east == q.east) & (q.north < p.north))
 }

@@ -1,10 +1,10 @@
 -- A bracket: the slopes from one a little below the rank up to one a little above it, kept behind those at the front, and the rank sought among them.
 -- Assumes nothing.
 use Rattle.std.specs.Prelude.{◌≡◌, refl, Bool, ℕ, ◌+◌, ◌*◌, ◌-◌, ◌≤◌, ◌<◌, length, get_or, take, drop}
-use Rattle.std.proofs.Common.{sym, ap, ap₂, ◌∙◌, subst, not-suc-le-zero, arith, length-drop, drop_at, length-take-le}
+use Rattle.std.proofs.Common.{sym, ap, ap₂, ◌∙◌, subst, arith, length-drop, drop_at, length-take-le}
 use mathlib.Core.List.{List, ◌++◌, append-nil, Memᴰ}
 use Rattle.std.proofs.Math.Seq.{drop-length}
-use borrow.Rule.Slice.PartMut.{put_mid, take_put}
+use borrow.Rule.Slice.PartMut.{put_mid}
 use Rattle.rules.specs.Lists.{those}
 use Rattle.rules.specs.Round.{Slope, slope_le}
 use Rattle.laws_ranks.specs.Counts.{bit, count, not_by, count-not, length-those, of_those}
@@ -12,83 +12,56 @@ use Rattle.laws_ranks.specs.Ranks.{HasRank, under, over}
 use Rattle.laws_rounds.specs.Slopes.{Up, slope_order}
 use Rattle.slopes.specs.Fractions.{fraction, fraction_at, fractions, Sound, Pickable, Near}
 use Rattle.slopes.specs.Order.{rank_from_on, rank_upto_on}
-use Rattle.slopes.specs.Passes.{Stands, Listed, Roomy, Alike, Kept, KeptBehind, Answers, behind, Bracketed, copied}
-use Rattle.slopes.specs.ScratchLaws.{length-fractions, near_of, part-is, alike_trans, alike-take, length-put, put-alike, put_other, drop-put}
-use Rattle.slopes.specs.PassLaws.{forward, kept_none, kept_more, kept-most}
+use Rattle.slopes.specs.Passes.{Stands, Listed, Alike, Kept, KeptFrom, Clear, Answers, behind, Bracketed, copied}
+use Rattle.slopes.specs.ScratchLaws.{length-fractions, near_of, part-is, length-put, put-alike, put_other, drop-put}
+use Rattle.slopes.specs.PassLaws.{forward, kept_none, kept_more}
 use Rattle.slopes.specs.Gathering.{alike_answer, behind-is}
 
--- ---- keeping at the front: of the first i those that pass the test, k of them, and from slope i on the list is as it came
+-- ---- keeping: of the first i those that pass the test, k of them, from slope m on; what lies before it is as it came, and the n from slope i on
 
-pub record Keeping (test : Slope → Bool) (w v : List ℕ) (i k : ℕ) : Type 0 where
+pub record Keeping (test : Slope → Bool) (n m : ℕ) (w v : List ℕ) (i k : ℕ) : Type 0 where
   pub long : length v ≡ length w
-  pub rest : (j : ℕ) → 2 * i ≤ j → get_or v j 0 ≡ get_or w j 0
-  pub kept : Kept test i w v k
+  pub front : Alike (2 * m) w v
+  pub rest : (j : ℕ) → 2 * i ≤ j → j < 2 * n → get_or v j 0 ≡ get_or w j 0
+  pub kept : Kept test i w (drop (2 * m) v) k
 
-pub keeping_none : (test : Slope → Bool) (w : List ℕ) → Keeping test w w 0 0
-keeping_none test w = record { long = refl; rest = λ j h. refl; kept = kept_none test w w }
+pub keeping_none : (test : Slope → Bool) (n m : ℕ) (w : List ℕ) → Keeping test n m w w 0 0
+keeping_none test n m w =
+    record { long = refl; front = record { same = λ j h. refl }; rest = λ j h g. refl; kept = kept_none test w (drop (2 * m) w) }
 
-module _ {test : Slope → Bool} {n : ℕ} {w v : List ℕ} {i k : ℕ} (all : Listed n w) (h : Keeping test w v i k) (below : i < n) where
+module _ {test : Slope → Bool} {n m : ℕ} {w v : List ℕ} {i k : ℕ} (all : Clear n m w) (h : Keeping test n m w v i k) (below : i < n) where
   pub keeping_stands : Stands v i
   keeping_stands =
-      let r = all.inside in
+      let r = all.room in
       let l = h.long in
-      record { inside = omega arith; part = part-is (h.rest (2 * i) (omega arith)) (h.rest (2 * i + 1) (omega arith)) (all.sound.part i below) }
+      record {
+        inside = omega arith;
+        part = part-is (h.rest (2 * i) (omega arith) (omega arith)) (h.rest (2 * i + 1) (omega arith) (omega arith)) (all.sound.part i below);
+      }
 
-  pub keeping_inside : 2 * k + 1 < length v
-  keeping_inside = let r = all.inside in let l = h.long in omega (arith, kept-most h.kept)
+  pub keeping_inside : 2 * (m + k) + 1 < length v
+  keeping_inside = let r = all.room in let l = h.long in omega (arith, h.kept.few)
 
-  pub keeping_more : (t : Bool) → t ≡ test (fraction_at v i) → Keeping test w (copied v i k) (i + 1) (k + bit t)
+  pub keeping_more : (t : Bool) → t ≡ test (fraction_at v i) → Keeping test n m w (copied v i (m + k)) (i + 1) (k + bit t)
   keeping_more t e =
       let rise = get_or v (2 * i) 0 in
       let run = get_or v (2 * i + 1) 0 in
-      let few = kept-most h.kept in
+      let few = h.kept.few in
+      let clear = all.behind in
       record {
-        long = length-put v k rise run ∙ h.long;
-        rest = λ j g. put_other v k rise run j (omega arith) (omega arith) ∙ h.rest j (omega arith);
+        long = length-put v (m + k) rise run ∙ h.long;
+        front = record { same = λ j l. (put-alike v (m + k) rise run).same j (omega arith) ∙ h.front.same j l };
+        rest = λ j g l. put_other v (m + k) rise run j (grind arith) (grind arith) ∙ h.rest j (omega arith) l;
         kept =
-            kept_more h.kept keeping_inside keeping_stands.part (ap₂ fraction (h.rest (2 * i) (omega arith)) (h.rest (2 * i + 1) (omega arith))) t e;
-      }
-
--- ---- keeping behind: of the first i those that pass the test, k of them, behind the first n, and these as they came
-
-pub record KeepingBehind (test : Slope → Bool) (n : ℕ) (w v : List ℕ) (i k : ℕ) : Type 0 where
-  pub long : length v ≡ length w
-  pub front : Alike (2 * n) w v
-  pub kept : Kept test i w (drop (2 * n) v) k
-
-pub behind_none : (test : Slope → Bool) (n : ℕ) (w : List ℕ) → KeepingBehind test n w w 0 0
-behind_none test n w = record { long = refl; front = record { same = λ j h. refl }; kept = kept_none test w (drop (2 * n) w) }
-
-module _ {test : Slope → Bool} {n : ℕ} {w v : List ℕ} {i k : ℕ} (all : Roomy n w) (h : KeepingBehind test n w v i k) (below : i < n) where
-  pub behind_stands : Stands v i
-  behind_stands =
-      let r = all.room in
-      let l = h.long in
-      record { inside = omega arith; part = part-is (h.front.same (2 * i) (omega arith)) (h.front.same (2 * i + 1) (omega arith)) (all.sound.part i below) }
-
-  pub behind_inside : 2 * (n + k) + 1 < length v
-  behind_inside = let r = all.room in let l = h.long in omega (arith, kept-most h.kept)
-
-  pub behind_more : (t : Bool) → t ≡ test (fraction_at v i) → KeepingBehind test n w (copied v i (n + k)) (i + 1) (k + bit t)
-  behind_more t e =
-      let rise = get_or v (2 * i) 0 in
-      let run = get_or v (2 * i + 1) 0 in
-      record {
-        long = length-put v (n + k) rise run ∙ h.long;
-        front = record { same = λ j l. (put-alike v (n + k) rise run).same j (omega arith) ∙ h.front.same j l };
-        kept =
-            subst (λ (l : List ℕ). Kept test (i + 1) w l (k + bit t)) (sym (drop-put n v k rise run))
-            (kept_more h.kept (omega (arith, behind_inside, length-drop (2 * n) v)) behind_stands.part
-            (ap₂ fraction (h.front.same (2 * i) (omega arith)) (h.front.same (2 * i + 1) (omega arith))) t e);
+            subst (λ (l : List ℕ). Kept test (i + 1) w l (k + bit t)) (sym (drop-put m v k rise run))
+            (kept_more h.kept (omega (arith, keeping_inside, length-drop (2 * m) v)) keeping_stands.part
+            (ap₂ fraction (h.rest (2 * i) (omega arith) (omega arith)) (h.rest (2 * i + 1) (omega arith) (omega arith))) t e);
       }
 
 -- ---- the rank among those that are kept
 
-pub bracketed_none : {n r : ℕ} {w v : List ℕ} {s : ℕ} → Alike (2 * n) w v → Bracketed n r w v 0 s
-bracketed_none h = record { front = h; asks = λ o. absurd (not-suc-le-zero o); back = λ o x a. absurd (not-suc-le-zero o) }
-
 module _ {n r : ℕ} {w v : List ℕ} {low : Slope} {a : ℕ} (ask : Pickable n r w) (nl : Near low) (long : length v ≡ length w)
-    (h : KeptBehind (not_by (under slope_le low)) n w v a) where
+    (h : KeptFrom (not_by (under slope_le low)) n n w v a) where
   abbrev slopes : List Slope
   slopes = fractions n w
 
@@ -99,7 +72,7 @@ module _ {n r : ℕ} {w v : List ℕ} {low : Slope} {a : ℕ} (ask : Pickable n 
   -- the rest lie below low
   pub left_out : (a ≤ n) × (n - a ≡ count (under slope_le low) slopes)
   left_out =
-      let m = kept-most h.kept in (
+      let m = h.kept.few in (
         m,
         omega (arith, length-fractions a (behind n v), ap length lent_is, length-those (not_by (under slope_le low)) slopes, count-not (under slope_le low) slopes, length-fractions n w),
       )
@@ -108,7 +81,7 @@ module _ {n r : ℕ} {w v : List ℕ} {low : Slope} {a : ℕ} (ask : Pickable n 
   lent_listed =
       let room = ask.room in
       record {
-        inside = subst (λ (l : List ℕ). 2 * a ≤ length l) (sym (behind-is n v)) (omega (arith, length-drop (2 * n) v, kept-most h.kept));
+        inside = subst (λ (l : List ℕ). 2 * a ≤ length l) (sym (behind-is n v)) (omega (arith, length-drop (2 * n) v, h.kept.few));
         sound = subst (Sound a) (sym (behind-is n v)) h.kept.sound;
       }
 
@@ -127,11 +100,6 @@ module _ {n r : ℕ} {w v : List ℕ} {low : Slope} {a : ℕ} (ask : Pickable n 
     abbrev back : List ℕ
     back = put_mid (2 * n) (length v - 2 * n) v ys
 
-    pub front_back : Alike (2 * n) w back
-    front_back =
-        let room = ask.room in
-        alike_trans h.front (alike-take (take_put (2 * n) (length v - 2 * n) v ys (omega arith)))
-
     behind-back : behind n back ≡ ys
     behind-back =
         let room = ask.room in
@@ -145,12 +113,11 @@ module _ {n r : ℕ} {w v : List ℕ} {low : Slope} {a : ℕ} (ask : Pickable n 
         let room = ask.room in
         let e = behind-is n v in
         record {
-          front = front_back;
           asks =
-              λ o. subst (Pickable k (r - (n - a))) (sym behind-back)
+              subst (Pickable k (r - (n - a))) (sym behind-back)
               (record { rank_low = omega arith; rank-high = enough; sound = g.sound; room = omega (arith, same, ap length e, length-drop (2 * n) v) });
           back =
-              λ o x b. lent_answer (upto x
+              λ x b. lent_answer (upto x
               (subst (λ (l : List Slope). Answers (r - (n - a)) l x) (ap (fractions k) behind-back ∙ g.front) b));
         }
       where
@@ -170,4 +137,4 @@ module _ {n r : ℕ} {w v : List ℕ} {low : Slope} {a : ℕ} (ask : Pickable n 
 -- where the slopes stand as they came, a bracket of them is one of those that came
 pub bracketed_alike : {n r : ℕ} {w v u : List ℕ} {k s : ℕ} → Alike (2 * n) w v → Bracketed n r v u k s → Bracketed n r w u k s
 bracketed_alike {n} h b =
-    record { front = alike_trans h b.front; asks = b.asks; back = λ o x a. alike_answer n h (b.back o x a) }
+    record { asks = b.asks; back = λ x a. alike_answer n h (b.back x a) }

@@ -7,7 +7,7 @@ use Rattle.rules.specs.Round.{Slope, slope_le}
 use Rattle.laws_ranks.specs.Ranks.{under}
 use Rattle.laws_ranks.specs.Least.{LeastOut, out_one, out_more}
 use Rattle.slopes.specs.Fractions.{fraction, fraction_at, fractions, put, Part, Sound, Pickable}
-use Rattle.slopes.specs.Passes.{Listed, Lifted}
+use Rattle.slopes.specs.Passes.{Listed, Lifted, Read}
 use Rattle.slopes.specs.declared.Fraction.{Fraction}
 use Rattle.laws_rounds.specs.Slopes.{slope_order}
 use Rattle.slopes.specs.ScratchLaws.{near_part, one_more, near_of, part-is, length-put, put_other, fractions-put, sound_put, sound_none}
@@ -23,11 +23,6 @@ pub record Lifting (w v : List ℕ) (i : ℕ) (p : Fraction) : Type 0 where
   pub part : Part p.rise p.run
   pub sound : Sound i v
   pub out : LeastOut slope_le (fractions (i + 1) w) (held p) (fractions i v)
-
--- f has the words of slope k
-pub record Read (w : List ℕ) (k : ℕ) (f : Fraction) : Type 0 where
-  pub rise-is : f.rise ≡ get_or w (2 * k) 0
-  pub run_is : f.run ≡ get_or w (2 * k + 1) 0
 
 pub lifting_none : {n : ℕ} {w : List ℕ} {p : Fraction} → Listed n w → 1 ≤ n → Read w 0 p → Lifting w w 0 p
 unfolding fractions
@@ -78,11 +73,6 @@ module _ {n : ℕ} {w v : List ℕ} {i : ℕ} {p f : Fraction} (all : Listed n w
       → Lifting w (put v i (cond t p f).rise (cond t p f).run) (i + 1) (cond t f p)
   lifting_more true e = lifted_by h.part next_part (out_more slope_order up h.out (near_part next_part).forward true e)
   lifting_more false e = lifted_by next_part h.part (out_more slope_order up h.out (near_part next_part).forward false e)
-
-pub lifting_all : (n : ℕ) {w v : List ℕ} {i : ℕ} {p : Fraction} → i + 1 ≡ n → Lifting w v i p → Lifted n w (held p) v
-lifting_all n {w} {v} {i} {p} e h =
-    let k : n - 1 ≡ i = omega arith in
-    record { sound = rw k h.sound; out = rw (k, ← e) h.out }
 
 -- the rank before is asked among one slope fewer
 pub asked_next : {m s : ℕ} {v u : List ℕ} {p : Slope} → Pickable m s v → Lifted m v p u → length u ≡ length v → 1 < s → Pickable (m - 1) (s - 1) u

@@ -1,10 +1,11 @@
 // A few of the slopes at the front of scratch, gathered behind them, for a pivot to be picked from.
 ghost use Rattle.std.specs.Prelude.{◌+◌, ◌≤◌, ◌<◌};
-ghost use Rattle.slopes.specs.Passes.{Stands, Listed, Capped, Gatherable, Gathered};
+ghost use Rattle.slopes.specs.Passes.{Stands, Listed, Roomy, Capped, Gathered};
 
-use super::words::{copy, less, slope_at};
+use super::Slope;
+use super::words::copy;
 
-// Two places, in the order of their slopes.
+// Two places, in the order of their slopes. No tuple, nor Counts: the names say at each use which of the two is meant.
 #[derive(Clone, Copy)]
 struct Pair {
     low: usize,
@@ -15,7 +16,7 @@ fn ordered(w: &[u32], i: usize, j: usize) -> Pair
     requires { Stands w.now i × Stands w.now j }
     ensures { Capped i j result.low result.high }
 {
-    if less(slope_at(w, j), slope_at(w, i)) {
+    if Slope::at(w, j).below(Slope::at(w, i)) {
         Pair { low: j, high: i }
     } else {
         Pair { low: i, high: j }
@@ -47,15 +48,13 @@ fn middle(w: &[u32], i: usize) -> usize
 
 // Gathers the middles of the groups of five, and says how many they are.
 fn middles(w: &mut [u32], n: usize) -> usize
-    requires { Gatherable n w.old }
+    requires { Roomy n w.old × (40 ≤ n) }
     ensures { Gathered n w.old w.new result }
 {
     let g = n / 5;
-    let mut i = 0;
-    while i < g {
+    for i in 0..g {
         let j = middle(w, 5 * i);
         copy(w, j, n + i);
-        i += 1;
     }
     g
 }
@@ -69,22 +68,20 @@ fn stride(n: usize) -> usize
 
 // Gathers a sample, one of every d slopes, and says how many it has.
 pub fn sample(w: &mut [u32], n: usize, d: usize) -> usize
-    requires { Gatherable n w.old × (8 ≤ d) × (d ≤ n + 8) }
+    requires { Roomy n w.old × (40 ≤ n) × (8 ≤ d) × (d ≤ n + 8) }
     ensures { Gathered n w.old w.new result }
 {
-    let mut g: usize = 0;
-    let mut j = 0;
-    while j < n {
-        copy(w, j, n + g);
-        g += 1;
-        j += d;
+    let g = n.div_ceil(d);
+    for i in 0..g {
+        copy(w, d * i, n + i);
     }
     g
 }
 
 // Gathers the middles, or a sample.
+// A flag and no closure: it is a fact about the step before, made anew at each call.
 pub fn few(w: &mut [u32], n: usize, wide: bool) -> usize
-    requires { Gatherable n w.old }
+    requires { Roomy n w.old × (40 ≤ n) }
     ensures { Gathered n w.old w.new result }
 {
     if wide {

@@ -1,7 +1,7 @@
 // The pick of a slope: the slope of a given rank among those that lie at the front of scratch, two words each. Slopes are compared by cross products and
 // never divided. A step parts the slopes below a pivot from those above it and goes on with the side that has the rank; correctness needs only that the pivot is
 // one of the slopes. Of twelve slopes or fewer the least is taken out until it has the rank. Of 400 or more, first those well below the rank and well above it are left
-// out.
+// out. The scratch w is longer than the slopes: a count beside it says how many lie at its front, and the room behind them is worked in. So memory is fixed.
 #![tactic(auto)]
 
 mod bracket;
@@ -9,8 +9,9 @@ mod gather;
 mod scan;
 mod words;
 
+ghost use Rattle.std.specs.Prelude.{◌≤◌};
 ghost use Rattle.slopes.specs.Fractions.{as_slope, fractions, Pickable, Picked};
-ghost use Rattle.slopes.specs.Passes.{Pivotable, Pivoted, Answers};
+ghost use Rattle.slopes.specs.Passes.{Roomy, Pivoted, Answers};
 
 // Rise over run, the run above zero.
 #[derive(Clone, Copy)]
@@ -20,6 +21,7 @@ pub struct Slope {
 }
 
 // The two words of a slope in scratch: the rise plus 2,000,000, and the run.
+// Not one generic type with Slope: the two rises differ by 2,000,000, and neither may pass for the other.
 #[derive(Clone, Copy)]
 pub struct Fraction {
     pub rise: u32,
@@ -31,16 +33,10 @@ pub fn pick_slope(w: &mut [u32], q: usize, r: usize) -> Slope
     requires { Pickable q r w.old }
     ensures { Picked r (fractions q w.old) (as_slope result) }
 {
-    if q < 400 {
-        return pick(w, q, r, false);
+    match bracket::bracket(w, q, r) {
+        Some(b) => pick(&mut w[2 * q..], b.n, b.r, false),
+        None => pick(w, q, r, false),
     }
-    let b = bracket::bracket(w, q, r);
-    let k = b.n;
-    if k == 0 {
-        return pick(w, q, r, false);
-    }
-    let e = 2 * q;
-    pick(&mut w[e..], k, b.r, false)
 }
 
 // The same; wide says that the step before left more than 3/4 of its slopes.
@@ -53,25 +49,22 @@ fn pick(w: &mut [u32], n: usize, r: usize, wide: bool) -> Slope
         return scan::short(w, n, r);
     }
     let p = pivot(w, n, wide);
-    let s = scan::narrow(w, n, r, p);
-    let k = s.n;
-    if k == 0 {
-        return p;
+    match scan::narrow(w, n, r, p) {
+        Some(s) => pick(w, s.n, s.r, 3 * n < 4 * s.n),
+        None => p,
     }
-    pick(w, k, s.r, 3 * n < 4 * k)
 }
 
 // One of the n slopes at the front of w, found by picking: the middle of a sample, or after a wide step the middle of the middles of groups of five. Of fewer than
 // 40 it is the middle of three.
 #[cycle(pick_pivot)]
 fn pivot(w: &mut [u32], n: usize, wide: bool) -> Slope
-    requires { Pivotable n w.old }
+    requires { Roomy n w.old × (1 ≤ n) }
     ensures { Pivoted n w.old w.new (as_slope result) }
 {
     if n < 40 {
-        return words::slope_at(w, gather::middle_of_three(w, n / 4, n / 2, n - 1));
+        return Slope::at(w, gather::middle_of_three(w, n / 4, n / 2, n - 1));
     }
     let g = gather::few(w, n, wide);
-    let e = 2 * n;
-    pick(&mut w[e..], g, (g + 1) / 2, false)
+    pick(&mut w[2 * n..], g, g.div_ceil(2), false)
 }

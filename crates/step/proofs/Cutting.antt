@@ -6,6 +6,7 @@ use mathlib.Core.List.{List, map, map-map}
 use Prim.Native.Nat.{ℕ, ◌-◌, ◌^◌, ◌<◌}
 use native.Mathlib.Omega.{arith}
 use borrow.Rule.Slice.PartMut.{mid_of}
+use lib.Dec.{leb}
 use lib.IntN.{ℤ}
 use lib.Signed.{mag}
 use lib.ListN.{length, take, drop, length-map}
@@ -13,10 +14,9 @@ use lib.Seq.{paste, length-paste, length-take-le, take-take, take_all}
 use mir.Syntax.{w32}
 use Rattle.whole.specs.Fits.{within-fits}
 use Rattle.rules.specs.Picker.{rank}
+use Rattle.laws_ranks.specs.Ranks.{HasRank}
 use Rattle.picker.specs.Keys.{key_of, number_of, Words}
 use Rattle.picker.specs.KeyLaws.{picked-number}
-use Rattle.picker.specs.Picking.{Picks}
-use Rattle.picker.specs.declared.Ranked.{Ranked}
 use Rattle.samples.specs.Positions.{east_of}
 use Rattle.step.specs.Pasting.{paste_front, paste_part}
 use Rattle.step.specs.Stepping.{CutAsks}
@@ -51,7 +51,7 @@ module _ {es : List ℤ} {w : List ℕ} {t : ℕ} (asks : CutAsks es w t) where
     unfolding keys
     list-stays = ap (take t) pasted ∙ paste_front w t keys t (omega (arith, asks.room)) (omega (arith, keys_long))
 
-    -- the keys lie at the front of what is lent to the picker
+    -- the keys lie behind the list
     keys_behind : take t (mid_of t (length now - t) now) ≡ map key_of (map (east_of es) list)
     unfolding keys
     keys_behind =
@@ -61,5 +61,5 @@ module _ {es : List ℤ} {w : List ℕ} {t : ℕ} (asks : CutAsks es w t) where
         ∙ take_all t keys (omega (arith, keys_long))
         ∙ sym (map-map key_of (east_of es) list)
 
-    pub cut-is : {r : ℕ} {said : Ranked} → Picks (take t (mid_of t (length now - t) now)) r said → number_of said.key ≡ rank r (map (east_of es) list)
-    cut-is p = picked-number easts-words keys_behind p
+    pub cut-is : {r k : ℕ} → HasRank leb r (take t (mid_of t (length now - t) now)) k → number_of k ≡ rank r (map (east_of es) list)
+    cut-is h = picked-number easts-words keys_behind h

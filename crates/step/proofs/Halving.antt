@@ -1,17 +1,17 @@
 -- Halving: the right list and the left list are written behind the list, side by side, and move to the front together.
 -- Assumes nothing.
 use mathlib.Core.Path.{◌≡◌, sym, ap, ap₂, ◌∙◌, subst}
-use mathlib.Core.Logic.{inl}
 use mathlib.Core.Bool.{true, false}
 use mathlib.Core.List.{List, ◌++◌}
-use Prim.Native.Nat.{ℕ, ◌+◌, ◌≤◌}
+use Prim.Native.Nat.{ℕ, ◌+◌, ◌-◌, ◌≤◌}
 use native.Mathlib.Omega.{arith}
 use lib.IntN.{ℤ}
 use lib.ListN.{length, take, drop, length-drop}
 use lib.Seq.{paste, drop-drop, take-add, length-take-le, length-paste}
 use Rattle.laws_outline.specs.ListLaws.{those-most}
 use Rattle.samples.specs.Positions.{Listed, east_of}
-use Rattle.step.specs.Pasting.{CopyAsks, same-part, part_long, front_first, front_second, paste_part}
+use Rattle.std.specs.List.{copy_within}
+use Rattle.step.specs.Pasting.{same-part, part_long, front_first, front_second, paste_part}
 use Rattle.step.specs.NumberLists.{past, beyond_numbers, BeyondAsks, Beyond}
 use Rattle.step.specs.Stepping.{HalvesAsk, HalvesSay}
 
@@ -53,9 +53,6 @@ module _ {es : List ℤ} {w : List ℕ} {t i j : ℕ} (asks : HalvesAsk es w t i
       left-count : left ≡ length L
       left-count = part_long (t + right) left w₂ L c.inside left-part
 
-      pub halves_copied : CopyAsks w₂ t 0 (right + left)
-      halves_copied = let h = c.inside in record { source = omega arith; target = omega arith; apart = inl (omega arith) }
-
       side_by_side : take (right + left) (drop t w₂) ≡ R ++ L
       unfolding R
       side_by_side =
@@ -64,9 +61,9 @@ module _ {es : List ℤ} {w : List ℕ} {t i j : ℕ} (asks : HalvesAsk es w t i
           (same-part t right w₂ w₁ (omega (arith, asks)) (omega (arith, asks)) c.before ∙ b.part)
           (ap (take left) (drop-drop right t w₂) ∙ left-part)
 
-      pub halved : {w₃ : List ℕ} → w₃ ≡ paste w₂ 0 (drop t w₂) (right + left) → HalvesSay es (take t w) i j left right w₃
+      pub halved : {w₃ : List ℕ} → w₃ ≡ copy_within w₂ t (t + right + left) 0 → HalvesSay es (take t w) i j left right w₃
       unfolding R L
-      halved {w₃} e =
+      halved {w₃} copied =
           record {
             right_is = ap (λ (k : ℕ). take k w₃) right_count ∙ front_first w₃ R L front;
             left_is = ap₂ (λ (k n : ℕ). take k (drop n w₃)) left-count right_count ∙ front_second w₃ R L (omega (arith, fits)) front;
@@ -74,6 +71,9 @@ module _ {es : List ℤ} {w : List ℕ} {t i j : ℕ} (asks : HalvesAsk es w t i
             left-count = left-count;
           }
         where
+          e : w₃ ≡ paste w₂ 0 (drop t w₂) (right + left)
+          e = let long : t + right + left - t ≡ right + left = omega arith in copied ∙ ap (paste w₂ 0 (drop t w₂)) long
+
           source : right + left ≤ length (drop t w₂)
           source = let h = c.inside in omega (arith, length-drop t w₂)
 

@@ -18,7 +18,6 @@ use Rattle.step.specs.NumberLists.{Passed, Beyond, Listing}
 module _ (test : ℕ → Bool) (src w : List ℕ) (to : ℕ) where
   -- of the first i items k pass
   pub record Passing (now : List ℕ) (i k : ℕ) : Type 0 where
-    pub inside : i ≤ length src
     pub few : k ≤ i
     pub before : take to now ≡ take to w
     pub part : take k (drop to now) ≡ those test (take i src)
@@ -26,7 +25,7 @@ module _ (test : ℕ → Bool) (src w : List ℕ) (to : ℕ) where
 
   pub passing_none : Passing w 0 0
   unfolding those
-  passing_none = record { inside = omega arith; few = omega arith; before = refl; part = refl; long = refl }
+  passing_none = record { few = omega arith; before = refl; part = refl; long = refl }
 
   passing_part : (now : List ℕ) (i k x : ℕ) (b : Bool)
       → b ≡ test x
@@ -55,7 +54,6 @@ module _ (test : ℕ → Bool) (src w : List ℕ) (to : ℕ) where
       let a = p.few in
       let l = p.long in
       record {
-        inside = omega arith;
         few = omega (arith, byte_most b);
         before = take-set-le to now (to + k) x (omega arith) ∙ p.before;
         part = passing_part now i k x b e at h (omega arith) p.part;
@@ -70,11 +68,10 @@ module _ (test : ℕ → Bool) (src w : List ℕ) (to : ℕ) where
       ∙ get_or-take to w j 0 (omega arith)
       ∙ sym (get_or-take t w j 0 h)
 
-  pub passing_all : {now : List ℕ} {i k : ℕ} → length src ≤ i → Passing now i k → Passed test src w to k now
+  pub passing_all : {now : List ℕ} {i k : ℕ} → i ≡ length src → Passing now i k → Passed test src w to k now
   passing_all {now} {i} h p =
       let a = p.few in
-      let l = p.inside in
-      record { before = p.before; part = p.part ∙ ap (those test) (take_all i src h); few = omega arith }
+      record { before = p.before; part = p.part ∙ ap (those test) (take_all i src (omega arith)); few = omega arith }
 
 -- ---- numbers before those that pass
 

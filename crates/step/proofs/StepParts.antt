@@ -1,7 +1,7 @@
 -- A step, part after part: its cut, its split, the chain of its left list, the chain of its right list, and both side by side at the front.
 -- Assumes nothing.
 use mathlib.Core.Path.{◌≡◌, sym, ap, ap₂, ◌∙◌, subst}
-use mathlib.Core.Logic.{inl, inr, ⊎_elim}
+use mathlib.Core.Logic.{⊎_elim}
 use mathlib.Core.Bool.{Bool, false, ◌&&◌}
 use mathlib.Core.List.Memᴰ
 use mathlib.Core.List.{List, [], ◌∷◌, ◌++◌, map, map-append, Memᴰ}
@@ -22,10 +22,12 @@ use Rattle.laws_outline.specs.ListLaws.{those_in, yes_both, not-both}
 use Rattle.laws_outline.specs.Bridges.{BothSides, spans-is}
 use Rattle.laws_rounds.specs.Rounds.{found_in}
 use Rattle.laws_rounds.specs.StepsAtMiddle.{ready_spans, BySteps, no_step}
-use Rattle.samples.specs.Positions.{at, east_of, Listed}
-use Rattle.step.specs.Pasting.{CopyAsks, same-part, paste_front, paste_part}
+use Rattle.samples.specs.Positions.{at, east_of, Sampled, Listed}
+use Rattle.std.specs.List.{copy_within}
+use Rattle.step.specs.Pasting.{same-part, paste_front, paste_part}
 use Rattle.step.specs.Chaining.{Chainable, left_numbers, right_numbers, left_chainable, right_chainable, steps_on}
 use Rattle.step.specs.Stepping.{number_at, CutAsks, CutSays, SplitAsks, SplitAt, ChainAsks, StepAsks, ChainIs}
+use Rattle.step.proofs.SignedWords.{word}
 use Rattle.step.specs.StepCut.{list_long, ready, two, is_cut, split_list, left_few, right_few}
 
 -- ---- parts that come back
@@ -102,8 +104,8 @@ module _ {es ns : List ℤ} {lower : Bool} {w : List ℕ} {t p q : ℕ} (asks : 
   abbrev l : List ℕ
   l = take t w
 
-  pub cut_asks : CutAsks es w t
-  cut_asks = record { near = asks.asks.sampled.east_near; listed = asks.asks.listed; two = two asks; room = omega (arith, asks.asks.room) }
+  pub cut_asks : Sampled es ns → CutAsks es w t
+  cut_asks sampled = record { near = sampled.east_near; listed = asks.asks.listed; two = two asks; room = omega (arith, asks.asks.room) }
 
   -- ---- after the cut
 
@@ -111,7 +113,6 @@ module _ {es ns : List ℤ} {lower : Bool} {w : List ℕ} {t p q : ℕ} (asks : 
     pub split_asks : SplitAsks es ns lower w₁ t p q
     split_asks =
         record {
-          sampled = asks.asks.sampled;
           listed = subst (Listed (length es)) (sym c.same-list) asks.asks.listed;
           left_below = asks.asks.left_below;
           right_below = asks.asks.right_below;
@@ -122,8 +123,8 @@ module _ {es ns : List ℤ} {lower : Bool} {w : List ℕ} {t p q : ℕ} (asks : 
         }
 
     -- the cut lies from p's east to below q's, so there is a bridge over it
-    pub over-cut : (le_z (east_of es p) a && lt_z a (east_of es q)) ≡ false → ⊥
-    over-cut e = not-both (yes_both (le_test from) (lt_test below)) e
+    pub over-cut : word a ≡ a → (le_z (east_of es p) (word a) && lt_z (word a) (east_of es q)) ≡ false → ⊥
+    over-cut k e = not-both (yes_both (le_test from) (lt_test below)) (subst (λ (z : ℤ). (le_z (east_of es p) z && lt_z z (east_of es q)) ≡ false) k e)
       where
         sides : BothSides (Of (map to l)) a
         sides = subst (BothSides (Of (map to l))) (sym (is_cut asks c)) (spans-is (cut (map to l)) (map to l) (ready_spans (ready asks)))
@@ -136,17 +137,21 @@ module _ {es ns : List ℤ} {lower : Bool} {w : List ℕ} {t p q : ℕ} (asks : 
 
     -- ---- after the split
 
-    pub parts : {i j left right : ℕ} {w₂ : List ℕ} → SplitAt es ns lower (take t w₁) a i j left right w₂ → length w₂ ≡ length w₁
+    pub parts : {i j left right : ℕ} {w₂ : List ℕ} → word a ≡ a → SplitAt es ns lower (take t w₁) (word a) i j left right w₂ → length w₂ ≡ length w₁
         → Parts es ns lower w t p q i j left right w₂
-    parts {i} {j} {left} {right} {w₂} s long₂ =
-        record { asks = asks; split = split_list asks c s; long = long₂ ∙ long₁ }
+    parts {i} {j} {left} {right} {w₂} k s long₂ =
+        record {
+          asks = asks;
+          split = split_list asks c (subst (λ (z : ℤ). SplitAt es ns lower (take t w₁) z i j left right w₂) k s);
+          long = long₂ ∙ long₁;
+        }
 
 module _ {es ns : List ℤ} {lower : Bool} {w : List ℕ} {t p q i j left right : ℕ} {w₂ : List ℕ} (s : Parts es ns lower w t p q i j left right w₂) where
   abbrev face : ℕ → Stream
   face = at es ns lower
 
-  abbrev naming : Stream → ℕ
-  naming = number_at es ns lower
+  abbrev numbering : Stream → ℕ
+  numbering = number_at es ns lower
 
   abbrev all : List ℕ
   all = take t w
@@ -167,11 +172,10 @@ module _ {es ns : List ℤ} {lower : Bool} {w : List ℕ} {t p q i j left right 
   pub left_asks : ChainAsks es ns lower (mid_of right (length w₂ - right) w₂) left p i
   left_asks =
       record {
-        sampled = s.asks.asks.sampled;
         listed = subst (Listed (length es)) (sym is) (listed-beyond (λ x. lt_z (face x).east (face i).east) below s.asks.asks.listed);
         left_below = s.asks.asks.left_below;
         right_below = below;
-        chainable = subst (λ (k : List ℕ). Chainable face naming k p i) (sym is) (left_chainable face naming s.asks.asks.chainable s.asks.far s.split.found);
+        chainable = subst (λ (k : List ℕ). Chainable face numbering k p i) (sym is) (left_chainable face numbering s.asks.asks.chainable s.asks.far s.split.found);
         room = omega (arith, left_few s.asks s.split, right_few s.asks s.split, s.asks.asks.room, s.long, mid_len right (length w₂) w₂ (le_refl (length w₂)));
       }
     where
@@ -183,7 +187,7 @@ module _ {es ns : List ℤ} {lower : Bool} {w : List ℕ} {t p q i j left right 
 
   -- ---- after the chain of the left list
 
-  pub left_made : {u : ℕ} {ys : List ℕ} (c : ChainIs face naming (take left (mid_of right (length w₂ - right) w₂)) p i u ys)
+  pub left_made : {u : ℕ} {ys : List ℕ} (c : ChainIs face numbering (take left (mid_of right (length w₂ - right) w₂)) p i u ys)
       → length ys ≡ length (mid_of right (length w₂ - right) w₂)
       → LeftMade es ns lower w t p i j left right u c.chain (put_mid right (length w₂ - right) w₂ ys)
   left_made {u} {ys} c long-ys =
@@ -206,31 +210,34 @@ module _ {es ns : List ℤ} {lower : Bool} {w : List ℕ} {t p q i j left right 
 
   -- the right list can be copied behind it
   module _ {u : ℕ} {C : List Stream} {w₃ : List ℕ} (m : LeftMade es ns lower w t p i j left right u C w₃) where
-    pub behind_asks : CopyAsks w₃ 0 (right + u) right
-    behind_asks = record { source = omega (arith, spare, m.long); target = omega (arith, spare, m.long, m.few); apart = inr (omega arith) }
+    pub behind_fits : right + u + right ≤ length w₃
+    behind_fits = omega (arith, spare, m.long, m.few)
 
     enough : right ≤ length w₃
     enough = omega (arith, spare, m.long)
 
-    pub right_copied : {w₄ : List ℕ} → w₄ ≡ paste w₃ (right + u) (drop 0 w₃) right → Copied es ns lower w t p i j left right u C w₄
-    right_copied {w₄} e =
+    pub right_copied : {w₄ : List ℕ} → w₄ ≡ copy_within w₃ 0 right (right + u) → Copied es ns lower w t p i j left right u C w₄
+    right_copied {w₄} copied =
         record {
           left-steps = m.left-steps;
           left-corners =
               same-part right u w₄ w₃ (omega (arith, enough, long)) enough (
-              ap (take (right + u)) e ∙ paste_front w₃ (right + u) w₃ right behind_asks.target enough
+              ap (take (right + u)) e ∙ paste_front w₃ (right + u) w₃ right behind_fits enough
               )
               ∙ m.left-corners;
           right_list =
               ap (λ (k : List ℕ). take right (drop (right + u) k)) e
-              ∙ paste_part w₃ (right + u) w₃ right behind_asks.target enough
+              ∙ paste_part w₃ (right + u) w₃ right behind_fits enough
               ∙ m.right_list;
           few = m.few;
           long = long ∙ m.long;
         }
       where
+        e : w₄ ≡ paste w₃ (right + u) w₃ right
+        e = let all : right - 0 ≡ right = omega arith in copied ∙ ap (paste w₃ (right + u) w₃) all
+
         long : length w₄ ≡ length w₃
-        long = ap (λ (k : List ℕ). length k) e ∙ length-paste w₃ (right + u) w₃ right behind_asks.target enough
+        long = ap (λ (k : List ℕ). length k) e ∙ length-paste w₃ (right + u) w₃ right behind_fits enough
 
   -- ---- the right list behind the left list's chain
 
@@ -244,25 +251,24 @@ module _ {es ns : List ℤ} {lower : Bool} {w : List ℕ} {t p q i j left right 
     pub right_asks : ChainAsks es ns lower (mid_of (right + u) (length w₄ - (right + u)) w₄) right j q
     right_asks =
         record {
-          sampled = s.asks.asks.sampled;
           listed = subst (Listed (length es)) (sym right_is) (listed-beyond (λ x. lt_z (face j).east (face x).east) below s.asks.asks.listed);
           left_below = below;
           right_below = s.asks.asks.right_below;
-          chainable = subst (λ (k : List ℕ). Chainable face naming k j q) (sym right_is)
-              (right_chainable face naming s.asks.asks.chainable s.asks.far s.split.found);
+          chainable = subst (λ (k : List ℕ). Chainable face numbering k j q) (sym right_is)
+              (right_chainable face numbering s.asks.asks.chainable s.asks.far s.split.found);
           room = omega (arith, spare, m.long, m.few, mid_len (right + u) (length w₄) w₄ (le_refl (length w₄)));
         }
       where
         below : j < length es
         below = s.asks.asks.listed.below j (found_in face (cut (map face all)) s.split.found).1
 
-    pub both_made : {v : ℕ} {zs : List ℕ} → ChainIs face naming (take right (mid_of (right + u) (length w₄ - (right + u)) w₄)) j q v zs
+    pub both_made : {v : ℕ} {zs : List ℕ} → ChainIs face numbering (take right (mid_of (right + u) (length w₄ - (right + u)) w₄)) j q v zs
         → length zs ≡ length (mid_of (right + u) (length w₄ - (right + u)) w₄)
         → BothMade es ns lower w t p q right u v (put_mid (right + u) (length w₄ - (right + u)) w₄ zs)
     both_made {v} {zs} c long-zs =
         record {
           chain = C ++ c.chain;
-          by_steps = steps_on face naming s.asks.asks.chainable s.asks.far s.split.found m.left-steps
+          by_steps = steps_on face numbering s.asks.asks.chainable s.asks.far s.split.found m.left-steps
               (subst (λ (k : List ℕ). BySteps (map face k) (face j) (face q) c.chain) right_is c.by_steps);
           corners =
               take-add u v (drop right w₅)
@@ -273,7 +279,7 @@ module _ {es ns : List ℤ} {lower : Bool} {w : List ℕ} {t p q i j left right 
               (ap (take v) (drop-drop u right w₅)
               ∙ put-part (right + u) (length w₄ - (right + u)) v w₄ zs right_starts (omega (arith, spare, m.long, m.few, few, part_long))
               ∙ c.corners)
-              ∙ sym (map-append naming C c.chain);
+              ∙ sym (map-append numbering C c.chain);
           few = omega (arith, m.few, few, left_few s.asks s.split, right_few s.asks s.split);
           inside = omega (arith, spare, m.few, few);
           long = long ∙ m.long;
@@ -294,17 +300,20 @@ module _ {es ns : List ℤ} {lower : Bool} {w : List ℕ} {t p q i j left right 
   -- ---- both chains side by side, and at the front
 
   module _ {u v : ℕ} {w₅ : List ℕ} (m : BothMade es ns lower w t p q right u v w₅) where
-    pub front_asks : CopyAsks w₅ right 0 (u + v)
-    front_asks = record { source = omega (arith, m.inside, m.long); target = omega (arith, m.inside, m.long); apart = inl (omega arith) }
+    pub front_fits : right + u + v ≤ length w₅
+    front_fits = omega (arith, m.inside, m.long)
 
-    pub chain-is : {w₆ : List ℕ} → w₆ ≡ paste w₅ 0 (drop right w₅) (u + v) → ChainIs face naming all p q (u + v) w₆
-    chain-is e =
+    pub chain-is : {w₆ : List ℕ} → w₆ ≡ copy_within w₅ right (right + u + v) 0 → ChainIs face numbering all p q (u + v) w₆
+    chain-is {w₆} copied =
         record {
           chain = m.chain;
           by_steps = m.by_steps;
           corners =
               ap (take (u + v)) e
-              ∙ paste_part w₅ 0 (drop right w₅) (u + v) front_asks.target (omega (arith, front_asks.source, length-drop right w₅))
+              ∙ paste_part w₅ 0 (drop right w₅) (u + v) (omega (arith, front_fits)) (omega (arith, front_fits, length-drop right w₅))
               ∙ m.corners;
           few = omega (arith, m.few, list_long s.asks);
         }
+      where
+        e : w₆ ≡ paste w₅ 0 (drop right w₅) (u + v)
+        e = let all : right + u + v - right ≡ u + v = omega arith in copied ∙ ap (paste w₅ 0 (drop right w₅)) all

@@ -1,6 +1,6 @@
 -- The ends of the samples by number: the best by nearness, the earliest of those at its position.
 -- Assumes nothing.
-use Rattle.std.specs.Prelude.{◌≡◌, Bool, true, false, ◌&&◌, ◌||◌, ℕ, ◌+◌, ◌≤◌, ◌<◌, ℤ, ◌≤ℤ◌, length, get_or, take, drop}
+use Rattle.std.specs.Prelude.{◌≡◌, Bool, true, false, ◌&&◌, ◌||◌, ℕ, ◌+◌, ◌≤◌, ◌<◌, ◌≤ℤ◌, get_or, take, drop}
 use Rattle.std.proofs.Math.Path.{refl}
 use Rattle.std.proofs.Common.{sym, ap, ap₂, ◌∙◌, subst, add-one, arith, take-suc, take_all, length-take-le}
 use Rattle.std.proofs.Math.Bool.{cond, and_comm}
@@ -17,7 +17,6 @@ use Rattle.laws_outline.specs.TwoKeys.{two_keys_rank, two_keys_no}
 use Rattle.laws_rounds.specs.ListedItems.{first_of, best-first}
 use Rattle.laws_rounds.specs.Pairs.{here}
 use Rattle.laws_rounds.specs.WholeList.{numbers, numbers-length, numbers-at}
-use Rattle.samples.specs.Positions.{Sampled}
 
 -- nearer the right end, or else the left end
 abbrev pub nearer : Bool → Stream → Stream → Bool
@@ -29,11 +28,10 @@ abbrev pub End : Bool → Samples → Stream → Type 0
 End true S p = RightEnd S p
 End false S p = LeftEnd S p
 
--- what a scan for an end asks: samples that passed their tests, one at least
-pub record EndAsks (es ns : List ℤ) : Type 0 where
-  pub sampled : Sampled es ns
-  pub some_sample : 1 ≤ length es
-  pub few : length es ≤ 65536
+-- what a scan for an end asks: one sample at least
+pub record EndAsks (count : ℕ) : Type 0 where
+  pub some_sample : 1 ≤ count
+  pub few : count ≤ 65536
 
 module _ (at : ℕ → Stream) (right : Bool) where
   -- the nearest of 0 and the numbers after it

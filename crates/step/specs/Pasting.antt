@@ -1,15 +1,8 @@
--- Parts of a list: words pasted over it one after another, and where a paste reads what was there before.
+-- Parts of a list, and of a list with words pasted over it.
 -- Assumes nothing.
-use Rattle.std.specs.Prelude.{◌≡◌, refl, ◌⊎◌, List, ◌++◌, ℕ, ◌+◌, ◌-◌, ◌≤◌, ◌<◌, length, take, drop, set, get_or}
-use Rattle.std.proofs.Common.{sym, ap, ap₂, ◌∙◌, inl, inr, append_assoc, add-one, arith, length-set, length-drop, take_at, drop_at, take-add, take-take, get_or-take, get_or-drop, length-take-le}
-use Rattle.std.proofs.Math.Seq.{paste, paste-zero, paste-suc, take-append_seam, drop-append_seam}
-use Rattle.std.proofs.lemmas.List.Edits.{drop-paste}
-
--- n words from `from` on are read and written from `to` on; what is read later is not written before
-pub record CopyAsks (w : List ℕ) (from to n : ℕ) : Type 0 where
-  pub source : from + n ≤ length w
-  pub target : to + n ≤ length w
-  pub apart : (to ≤ from) ⊎ (from + n ≤ to)
+use Rattle.std.specs.Prelude.{◌≡◌, List, ◌++◌, ℕ, ◌+◌, ◌≤◌, length, take, drop}
+use Rattle.std.proofs.Common.{sym, ap, ◌∙◌, append_assoc, arith, length-drop, take_at, drop_at, take-add, take-take, length-take-le}
+use Rattle.std.proofs.Math.Seq.{paste, take-append_seam, drop-append_seam}
 
 -- ---- a part behind the first items
 
@@ -51,53 +44,3 @@ module _ {A : Type 0} (w : List A) (to : ℕ) (s : List A) (n : ℕ) (fits : to 
 
   pub paste_part : take n (drop to (paste w to s n)) ≡ take n s
   paste_part = ap (take n) paste_from ∙ take_at (take n s) (drop (to + n) w) n (length-take-le n s enough)
-
--- ---- the first i items of s stand over w from `to` on
-
-module _ {A : Type 0} (w s : List A) (to : ℕ) where
-  pub record Pasted (i : ℕ) (now : List A) : Type 0 where
-    pub inside : i ≤ length s
-    pub fits : to + i ≤ length w
-    pub is : now ≡ paste w to s i
-    pub long : length now ≡ length w
-
-  pub pasted_none : to ≤ length w → Pasted 0 w
-  pasted_none h = record { inside = omega arith; fits = omega arith; is = paste-zero w to s; long = refl }
-
-  pub pasted_more : (d : A) {i : ℕ} {now : List A} {v : A} → i < length s → to + i < length w → v ≡ get_or s i d → Pasted i now
-      → Pasted (i + 1) (set now (to + i) v)
-  pasted_more d {i} {now} {v} h k e p =
-      record {
-        inside = omega arith;
-        fits = omega arith;
-        is =
-            ap₂ (λ (l : List A) (x : A). set l (to + i) x) p.is e
-            ∙ paste-suc w to s i d k h
-            ∙ ap (paste w to s) (sym (add-one i));
-        long = length-set now (to + i) v ∙ p.long;
-      }
-
-  -- an item before the part, or behind what is pasted so far, is as it was
-  pub pasted_before : {i : ℕ} {now : List A} (d : A) (j : ℕ) → j < to → Pasted i now → get_or now j d ≡ get_or w j d
-  pasted_before {i} {now} d j h p =
-      sym (get_or-take to now j d h)
-      ∙ ap (λ (l : List A). get_or l j d) (ap (take to) p.is ∙ paste_front w to s i p.fits p.inside)
-      ∙ get_or-take to w j d h
-
-  pub pasted_behind : {i : ℕ} {now : List A} (d : A) (j : ℕ) → to + i ≤ j → Pasted i now → get_or now j d ≡ get_or w j d
-  pasted_behind {i} {now} d j h p =
-      at now
-      ∙ ap (λ (l : List A). get_or l (j - (to + i)) d) (ap (drop (to + i)) p.is ∙ drop-paste w to s i (omega (arith, p.fits)) p.inside)
-      ∙ sym (at w)
-    where
-      at : (l : List A) → get_or l j d ≡ get_or (drop (to + i) l) (j - (to + i)) d
-      at l = ap (λ (k : ℕ). get_or l k d) (omega arith) ∙ sym (get_or-drop (to + i) l (j - (to + i)) d)
-
--- a copy within one list reads what was there before
-pub copied_item : {w now : List ℕ} {from to n i : ℕ} → CopyAsks w from to n → i < n → Pasted w (drop from w) to i now
-    → get_or now (from + i) 0 ≡ get_or (drop from w) i 0
-copied_item {w} {now} {from} {to} {n} {i} a h p = go a.apart ∙ sym (get_or-drop from w i 0)
-  where
-    go : (to ≤ from) ⊎ (from + n ≤ to) → get_or now (from + i) 0 ≡ get_or w (from + i) 0
-    go (inl k) = pasted_behind w (drop from w) to 0 (from + i) (omega arith) p
-    go (inr k) = pasted_before w (drop from w) to 0 (from + i) (omega arith) p

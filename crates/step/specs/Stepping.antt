@@ -1,6 +1,6 @@
 -- What the parts of a chain step ask and say, over a list of t sample numbers at the front of a part of scratch.
 -- Assumes nothing.
-use Rattle.std.specs.Prelude.{◌≡◌, ◌≢◌, Bool, true, false, ◌&&◌, ℕ, ◌*◌, ◌/◌, ◌≤◌, ◌<◌, ℤ, pos, length, get_or, take, drop}
+use Rattle.std.specs.Prelude.{◌≡◌, ◌≢◌, Bool, true, false, ◌&&◌, ℕ, ◌*◌, ◌/◌, ◌≤◌, ◌<◌, ℤ, pos, length, get_or, take, drop, Option, Some, None}
 use mathlib.Core.List.{List, map, Memᴰ}
 use Rattle.std.specs.Int.Signed.{le_z, lt_z}
 use Rattle.whole.specs.Fits.{Within}
@@ -10,13 +10,12 @@ use Rattle.rules.specs.Picker.{rank}
 use Rattle.rules.specs.Bridge.{ends, spans}
 use Rattle.laws_rounds.specs.Rounds.{Found}
 use Rattle.laws_rounds.specs.StepsAtMiddle.{BySteps}
-use Rattle.samples.specs.Positions.{at, east_of, Sampled, Listed}
+use Rattle.samples.specs.Positions.{at, east_of, Listed}
+use Rattle.samples.specs.Sides.{easts, norths}
+use Rattle.samples.specs.declared.sides.Side as held
 use Rattle.step.specs.Chaining.{Chainable}
 use Rattle.step.specs.NumberLists.{beyond_numbers}
-use Rattle.step.specs.declared.Stepped.{Stepped}
-use Rattle.step.specs.declared.Stepped.TheVariants as stepped
-use Rattle.step.specs.declared.Parted.{Parted}
-use Rattle.step.specs.declared.Parted.TheVariants.{At, NoBridge}
+use Rattle.step.specs.declared.Split.{Split}
 use Rattle.bridge.specs.declared.Ends.{Ends}
 
 -- the samples as a side sees them
@@ -27,6 +26,10 @@ side_samples es ns false = streams es ns
 -- the lowest sample number at a position of that side
 abbrev pub number_at : List ℤ → List ℤ → Bool → Stream → ℕ
 number_at es ns lower s = lowest (side_samples es ns lower) s
+
+-- the same of a side that is held by the code
+abbrev pub naming : held.Side → Stream → ℕ
+naming s = number_at (easts s) (norths s) s.lower
 
 -- ---- the cut
 
@@ -44,16 +47,15 @@ pub record CutSays (es : List ℤ) (w : List ℕ) (t : ℕ) (a : ℤ) (after : L
 
 -- ---- the bridge over a
 
-pub record BehindAsks (es ns : List ℤ) (lower : Bool) (w : List ℕ) (t : ℕ) (a : ℤ) : Type 0 where
-  pub sampled : Sampled es ns
-  pub listed : Listed (length es) (take t w)
-  pub spanned : spans a (map (at es ns lower) (take t w)) ≡ true
+pub record BehindAsks (count : ℕ) (at : ℕ → Stream) (w : List ℕ) (t : ℕ) (a : ℤ) : Type 0 where
+  pub listed : Listed count (take t w)
+  pub spanned : spans a (map at (take t w)) ≡ true
   pub two : 2 ≤ t
   pub room : 4 * t ≤ length w
 
 -- its ends are the first of the list at their positions; the list is as it was
-pub record BehindSays (es ns : List ℤ) (lower : Bool) (w : List ℕ) (t : ℕ) (a : ℤ) (b : Ends) (after : List ℕ) : Type 0 where
-  pub is : Found (at es ns lower) a (take t w) (ends b.left b.right)
+pub record BehindSays (at : ℕ → Stream) (w : List ℕ) (t : ℕ) (a : ℤ) (b : Ends) (after : List ℕ) : Type 0 where
+  pub is : Found at a (take t w) (ends b.left b.right)
   pub same-list : take t after ≡ take t w
 
 -- ---- the two lists
@@ -77,7 +79,6 @@ pub record HalvesSay (es : List ℤ) (l : List ℕ) (i j left right : ℕ) (afte
 
 -- a list that has the positions of p and of q
 pub record SplitAsks (es ns : List ℤ) (lower : Bool) (w : List ℕ) (t p q : ℕ) : Type 0 where
-  pub sampled : Sampled es ns
   pub listed : Listed (length es) (take t w)
   pub left_below : p < length es
   pub right_below : q < length es
@@ -91,15 +92,14 @@ pub record SplitAt (es ns : List ℤ) (lower : Bool) (l : List ℕ) (a : ℤ) (i
   pub halves : HalvesSay es l i j left right after
 
 -- there is no bridge over a where a does not lie from p's east to below q's
-abbrev pub SplitSays : List ℤ → List ℤ → Bool → List ℕ → ℕ → ℕ → ℤ → Parted → List ℕ → Type 0
-SplitSays es ns lower l p q a (At i j left right) after = SplitAt es ns lower l a i j left right after
-SplitSays es ns lower l p q a NoBridge after = (le_z (east_of es p) a && lt_z a (east_of es q)) ≡ false
+abbrev pub SplitSays : List ℤ → List ℤ → Bool → List ℕ → ℕ → ℕ → ℤ → Option Split → List ℕ → Type 0
+SplitSays es ns lower l p q a (Some s) after = SplitAt es ns lower l a s.i s.j s.left s.right after
+SplitSays es ns lower l p q a None after = (le_z (east_of es p) a && lt_z a (east_of es q)) ≡ false
 
 -- ---- the chain of a list
 
 -- a list from p to q, with room behind it for a step
 pub record ChainAsks (es ns : List ℤ) (lower : Bool) (w : List ℕ) (t p q : ℕ) : Type 0 where
-  pub sampled : Sampled es ns
   pub listed : Listed (length es) (take t w)
   pub left_below : p < length es
   pub right_below : q < length es
@@ -119,6 +119,6 @@ pub record ChainIs (at : ℕ → Stream) (number : Stream → ℕ) (l : List ℕ
   pub few : m ≤ length l
 
 -- no step's list lacks its bridge
-abbrev pub ChainSays : (ℕ → Stream) → (Stream → ℕ) → List ℕ → ℕ → ℕ → Stepped → List ℕ → Type 0
-ChainSays at number l p q (stepped.Chain m) after = ChainIs at number l p q m after
-ChainSays at number l p q stepped.NoBridge after = ⊥
+abbrev pub ChainSays : (ℕ → Stream) → (Stream → ℕ) → List ℕ → ℕ → ℕ → Option ℕ → List ℕ → Type 0
+ChainSays at number l p q (Some m) after = ChainIs at number l p q m after
+ChainSays at number l p q None after = ⊥

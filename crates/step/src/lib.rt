@@ -1,38 +1,31 @@
 // The chain step, over a list of sample numbers at the front of a lent part of scratch with free room behind it. A list from its left end to its right end
 // is cut at a middle of its easts, and the bridge over the cut leaves a left list and a right list; their chains, one after the other, are its chain. This is
 // Kirkpatrick and Seidel's marriage before conquest: the bridge is found before the two sides are looked at, so what lies under it is never looked at again.
+// Memory is fixed, and a step moves lists within w and lends parts of it: so a count t beside w says how long the list is.
 #![tactic(auto)]
 
 pub mod ends;
 pub mod lists;
-pub mod moves;
 
 ghost use Rattle.std.specs.Prelude.{cond, ◌&&◌, ◌≡◌, ◌<◌, length, take};
 ghost use Rattle.std.specs.Int.Signed.{le_z, lt_z};
-ghost use Rattle.samples.specs.Positions.{at, east_of};
-ghost use Rattle.step.specs.Stepping.{number_at, CutAsks, CutSays, BehindAsks, BehindSays, HalvesAsk, HalvesSay, SplitAsks, SplitSays, ChainAsks, StepAsks, ChainSays};
+ghost use Rattle.samples.specs.Positions.{east_of};
+ghost use Rattle.samples.specs.Sides.{easts, norths, size, seen};
+ghost use Rattle.step.specs.Stepping.{naming, CutAsks, CutSays, BehindAsks, BehindSays, HalvesAsk, HalvesSay, SplitAsks, SplitSays, ChainAsks, StepAsks, ChainSays};
 
 use bridge::{Ends, bridge_of};
 use ends::together;
+use samples::sides::Side;
 use samples::streams::east;
 
-// What is said of a list: the count of its chain's corners, whose numbers stand at the front, or that a step's list has no bridge over its cut.
+// A list split at the bridge from i to j: how many numbers its left list has, and how many its right list.
+// No Ends and Halves in it: both have a left and a right, and the step reads plainer with four names.
 #[derive(Clone, Copy)]
-pub enum Stepped {
-    Chain(usize),
-    NoBridge,
-}
-
-// A list split at the bridge from i to j, with how many numbers its left list and its right list have; or that it has no bridge over the cut.
-#[derive(Clone, Copy)]
-pub enum Parted {
-    At {
-        i: u32,
-        j: u32,
-        left: usize,
-        right: usize,
-    },
-    NoBridge,
+pub struct Split {
+    pub i: u32,
+    pub j: u32,
+    pub left: usize,
+    pub right: usize,
 }
 
 // A list halved at a bridge: how many numbers its left list has, and how many its right list.
@@ -48,8 +41,9 @@ fn cut(e: &[i32], w: &mut [u32], t: usize) -> i64
     ensures { CutSays e.now w.old t result w.new }
 {
     lists::easts(e, w, t);
-    let said = picker::pick_key(&mut w[t..], t, t / 2);
-    picker::keys::number(said.key) as i64
+    let (keys, room) = w[t..].split_at_mut(t);
+    let key = picker::pick_key(keys, room, t / 2);
+    picker::keys::number(key) as i64
 }
 
 // A list from p to q has a bridge over a: a lies from p's east to below q's.
@@ -57,19 +51,16 @@ fn bridged(e: &[i32], p: u32, q: u32, a: i64) -> bool
     requires { (p < length e.now) × (q < length e.now) }
     ensures { result ≡ (le_z (east_of e.now p) a && lt_z a (east_of e.now q)) }
 {
-    if a < east(e, p) {
-        return false;
-    }
-    a < east(e, q)
+    east(e, p) <= a && a < east(e, q)
 }
 
 // The bridge over a of the t numbers at the front of w, found in a copy of them behind them. Its ends are the first of the list at their positions.
-fn bridge_behind(e: &[i32], n: &[i32], lower: bool, w: &mut [u32], t: usize, a: i64) -> Ends
-    requires { BehindAsks e.now n.now lower w.old t a }
-    ensures { BehindSays e.now n.now lower w.old t a result w.new }
+fn bridge_behind(s: Side, w: &mut [u32], t: usize, a: i64) -> Ends
+    requires { BehindAsks (size s) (seen s) w.old t a }
+    ensures { BehindSays (seen s.entry) w.old t a result w.new }
 {
-    moves::copy(w, 0, t, t);
-    bridge_of(e, n, lower, a, &mut w[t..], t)
+    w.copy_within(0..t, t);
+    bridge_of(s, a, &mut w[t..], t)
 }
 
 // Halves the t numbers at the front of w at the bridge from i to j: the right list of j takes their place, and behind it stands the left list of i.
@@ -79,73 +70,56 @@ fn halve(e: &[i32], w: &mut [u32], t: usize, i: u32, j: u32) -> Halves
 {
     let right = lists::beyond(e, w, t, t, j, false);
     let left = lists::beyond(e, w, t, t + right, i, true);
-    moves::copy(w, t, 0, right + left);
+    w.copy_within(t..t + right + left, 0);
     Halves { left, right }
 }
 
 // Splits the t numbers at the front of w, from p to q, at the bridge over a, if there is one.
-fn split(
-    e: &[i32],
-    n: &[i32],
-    lower: bool,
-    w: &mut [u32],
-    t: usize,
-    p: u32,
-    q: u32,
-    a: i64,
-) -> Parted
-    requires { SplitAsks e.now n.now lower w.old t p q }
-    ensures { SplitSays e.now n.now lower (take t w.old) p q a result w.new }
+fn split_over(s: Side, w: &mut [u32], t: usize, p: u32, q: u32, a: i64) -> Option<Split>
+    requires { SplitAsks (easts s) (norths s) s.lower w.old t p q }
+    ensures { SplitSays (easts s.entry) (norths s.entry) s.entry.lower (take t w.old) p q a result w.new }
 {
+    let e = s.samples.east;
     if !bridged(e, p, q, a) {
-        return Parted::NoBridge;
+        return None;
     }
-    let b = bridge_behind(e, n, lower, w, t, a);
-    let i = b.left;
-    let j = b.right;
-    let h = halve(e, w, t, i, j);
-    Parted::At {
-        i,
-        j,
+    let b = bridge_behind(s, w, t, a);
+    let h = halve(e, w, t, b.left, b.right);
+    Some(Split {
+        i: b.left,
+        j: b.right,
         left: h.left,
         right: h.right,
-    }
+    })
 }
 
-// A step over the t numbers at the front of w, from p to q at another position. The left list's chain is made before the right list's, which lies before
-// it meanwhile; then both chains stand side by side and move to the front.
+// A step over the t numbers at the front of w, from p to q at another position: the count of its chain's corners, unless the list has no bridge over its cut.
+// The left list's chain is made before the right list's, which lies before it meanwhile; then both chains stand side by side and move to the front.
 #[cycle(chain_step)]
-fn step(e: &[i32], n: &[i32], lower: bool, w: &mut [u32], t: usize, p: u32, q: u32) -> Stepped
-    requires { StepAsks e.now n.now lower w.old t p q }
-    ensures { ChainSays (at e.now n.now lower) (number_at e.now n.now lower) (take t w.old) p q result w.new }
+fn step(s: Side, w: &mut [u32], t: usize, p: u32, q: u32) -> Option<usize>
+    requires { StepAsks (easts s) (norths s) s.lower w.old t p q }
+    ensures { ChainSays (seen s.entry) (naming s.entry) (take t w.old) p q result w.new }
 {
-    let a = cut(e, w, t);
-    let Parted::At { i, j, left, right } = split(e, n, lower, w, t, p, q, a) else {
-        return Stepped::NoBridge;
-    };
-    let Stepped::Chain(u) = chain(e, n, lower, &mut w[right..], left, p, i) else {
-        return Stepped::NoBridge;
-    };
-    let m = right + u;
-    moves::copy(w, 0, m, right);
-    let Stepped::Chain(v) = chain(e, n, lower, &mut w[m..], right, j, q) else {
-        return Stepped::NoBridge;
-    };
-    let both = u + v;
-    moves::copy(w, right, 0, both);
-    Stepped::Chain(both)
+    let a = cut(s.samples.east, w, t);
+    let k = split_over(s, w, t, p, q, a)?;
+    let u = chain(s, &mut w[k.right..], k.left, p, k.i)?;
+    let m = k.right + u;
+    w.copy_within(0..k.right, m);
+    let v = chain(s, &mut w[m..], k.right, k.j, q)?;
+    w.copy_within(k.right..m + v, 0);
+    Some(u + v)
 }
 
-// The chain from p to q of the t numbers at the front of w, left at the front by the lowest sample number at each corner. Ends at one position make no
-// step.
+// The chain from p to q of the t numbers at the front of w, left at the front by the lowest sample number at each corner: the count of its corners, unless a
+// step's list has no bridge over its cut. Ends at one position make no step.
 #[cycle(chain_step)]
-pub fn chain(e: &[i32], n: &[i32], lower: bool, w: &mut [u32], t: usize, p: u32, q: u32) -> Stepped
-    requires { ChainAsks e.now n.now lower w.old t p q }
-    ensures { ChainSays (at e.now n.now lower) (number_at e.now n.now lower) (take t w.old) p q result w.new }
+pub fn chain(s: Side, w: &mut [u32], t: usize, p: u32, q: u32) -> Option<usize>
+    requires { ChainAsks (easts s) (norths s) s.lower w.old t p q }
+    ensures { ChainSays (seen s.entry) (naming s.entry) (take t w.old) p q result w.new }
 {
-    if together(e, n, lower, p, q) {
+    if together(s, p, q) {
         w[0] = p;
-        return Stepped::Chain(1);
+        return Some(1);
     }
-    step(e, n, lower, w, t, p, q)
+    step(s, w, t, p, q)
 }

@@ -13,7 +13,7 @@ use samples::streams::east;
 fn between(x: i64, from: i64, to: i64) -> bool
     ensures { result ≡ between from to x }
 {
-    if from < x { x < to } else { false }
+    from < x && x < to
 }
 
 // Writes the samples strictly between two easts, in sample order, from place 2 on, and says how many they are.
@@ -21,13 +21,10 @@ fn inner(e: &[i32], w: &mut [u32], from: i64, to: i64) -> usize
     requires { (length e.now ≤ 65536) × (length e.now + 2 ≤ length w.old) }
     ensures { Passed (λ x. between from to (east_of e.now x)) (numbers (length e.now)) w.old 2 result w.new }
 {
-    let mut k: usize = 0;
-    let mut i: usize = 0;
-    while i < e.len() {
-        let x = i as u32;
+    let mut k = 0;
+    for x in 0..e.len() as u32 {
         w[2 + k] = x;
         k += between(east(e, x), from, to) as usize;
-        i += 1;
     }
     k
 }
@@ -54,13 +51,11 @@ fn pass(e: &[i32], w: &mut [u32], t: usize, to: usize, a: i64, west: bool) -> us
     requires { PassAsks e.now w.old t to }
     ensures { Passed (λ x. past west a (east_of e.now x)) (take t w.old) w.old to result w.new }
 {
-    let mut k: usize = 0;
-    let mut i: usize = 0;
-    while i < t {
+    let mut k = 0;
+    for i in 0..t {
         let x = w[i];
         w[to + k] = x;
         k += past(east(e, x), a, west) as usize;
-        i += 1;
     }
     k
 }
@@ -80,10 +75,7 @@ pub fn easts(e: &[i32], w: &mut [u32], t: usize)
     requires { EastsAsk e.now w.old t }
     ensures { w.new ≡ paste w.old t (map (λ x. key_of (east_of e.now x)) (take t w.old)) t }
 {
-    let mut i: usize = 0;
-    while i < t {
-        let x = w[i] as usize;
-        w[t + i] = key(e[x]);
-        i += 1;
+    for i in 0..t {
+        w[t + i] = key(e[w[i] as usize]);
     }
 }

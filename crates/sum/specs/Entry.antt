@@ -1,14 +1,12 @@
 -- What comes of a sum after the tests of its rings: nothing where a ring is empty, 19 where it reaches beyond the limit, else the last test. Assumes nothing.
-use Rattle.std.specs.Prelude.{◌≡◌, refl, true, false, List, [], ◌∷◌, ℕ, ℤ, length}
-use Rattle.std.proofs.Common.{sym, ap, ◌∙◌, subst₂, arith, le-ltb}
+use Rattle.std.specs.Prelude.{◌≡◌, refl, true, false, List, [], ◌∷◌, ℕ, ℤ, length, Ok}
+use Rattle.std.proofs.Common.{sym, ap, ◌∙◌, subst, arith, le-ltb}
 use Rattle.rules.specs.Lists.{some_of, zeros}
 use Rattle.rules.specs.Streams.{Stream, streams, beyond}
 use Rattle.rules.specs.Use.{sum}
 use Rattle.rules.specs.Refusals.{refused, Test, unless}
 use Rattle.rules.specs.Entries.{ring_short, sum_beyond}
 use Rattle.laws_sums.specs.Sums.{sum_empty_left, sum_empty_right}
-use Rattle.samples.specs.declared.answers.Counted.{Counted}
-use Rattle.samples.specs.declared.answers.Counted.TheVariants as counts
 use Rattle.closing.specs.RingPromise.{unless_short, Outcome}
 
 -- the tests of the sum itself
@@ -26,10 +24,10 @@ pub nothing-beyond : {R : List Stream} → R ≡ [] → false ≡ some_of beyond
 unfolding some_of
 nothing-beyond e = sym (ap (some_of beyond) e)
 
-pub nothing_written : {R : List Stream} (east north : List ℤ) (scratch : List ℕ) {r : Counted} {scratch' : List ℕ} → R ≡ [] → r ≡ counts.Count 0
-    → scratch' ≡ zeros scratch → Outcome (unless_short east north R) r east east north north scratch scratch'
-nothing_written {R} east north scratch {r} {scratch'} e q z =
-    subst₂ (λ (L : List Stream) (s : Counted). Outcome (unless_short east north L) s east east north north scratch scratch') (sym e) (sym q)
+pub nothing_written : {R : List Stream} (east north : List ℤ) (scratch : List ℕ) {scratch' : List ℕ} → R ≡ [] → scratch' ≡ zeros scratch
+    → Outcome (unless_short east north R) (Ok 0) east east north north scratch scratch'
+nothing_written {R} east north scratch {scratch'} e z =
+    subst (λ (L : List Stream). Outcome (unless_short east north L) (Ok 0) east east north north scratch scratch') (sym e)
     (rw (le-ltb (length east) 0 (omega arith), le-ltb (length north) 0 (omega arith)) (record { says = refl; east_after = refl; north_after = refl; scratch-is = z }))
 
 -- no corners, no streams

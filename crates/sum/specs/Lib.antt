@@ -1,5 +1,6 @@
 pub mod Words
 pub mod Stretches
+pub mod Corners
 pub mod Listing
 pub mod Reaches
 pub mod Whole

@@ -6,8 +6,9 @@ use Prim.Native.Nat.{ℕ}
 use contract.Lifetimes.{Lfts}
 use denote.Triple.Clauses.{AtExit}
 use borrow.Fn.Kinds.{Dens, ended_of}
-use Rattle.samples.specs.CountedAnswers.{counted_injective}
-use Rattle.samples.specs.declared.answers.Counted.{Counted}
+use Rattle.samples.specs.Answers.{answer_of_injective}
+use Rattle.std.specs.Prelude.{Result}
+use Rattle.samples.specs.declared.refusals.Refusal.{Refusal}
 use Rattle.text.proofs.reading.samples.Kinds as samples-kinds
 use Rattle.text.proofs.reading.samples.Reads as samples-reads
 use Rattle.text.proofs.printing.print_ring.Kinds as ring-kinds
@@ -15,11 +16,11 @@ use Rattle.text.proofs.printing.print_ring.Reads as ring-reads
 use Rattle.text.proofs.printing.print_refusal.Kinds as refusal-kinds
 use Rattle.text.proofs.printing.print_refusal.Reads as refusal-reads
 
-pub samples-one : (κs : Lfts 3) (a : Dens κs samples-kinds.ps) (r r' : Counted) (s s' : AtExit (ended_of 3 samples-kinds.ps samples-kinds.r) κs) →
+pub samples-one : (κs : Lfts 3) (a : Dens κs samples-kinds.ps) (r r' : Result ℕ Refusal) (s s' : AtExit (ended_of 3 samples-kinds.ps samples-kinds.r) κs) →
     samples-reads.Post κs a r s → samples-reads.Post κs a r' s' →
     (r ≡ r') × (s.1.0.now ≡ s'.1.0.now) × (s.1.1.0.now ≡ s'.1.1.0.now)
 samples-one κs a r r' s s' p q =
-    (counted_injective r r' (p.0 ∙ sym q.0), p.1.0 ∙ sym q.1.0, p.1.1 ∙ sym q.1.1)
+    (answer_of_injective r r' (p.0 ∙ sym q.0), p.1.0 ∙ sym q.1.0, p.1.1 ∙ sym q.1.1)
 
 pub print_ring_one : (κs : Lfts 3) (a : Dens κs ring-kinds.ps) (r r' : ℕ) (s s' : AtExit (ended_of 3 ring-kinds.ps ring-kinds.r) κs) →
     ring-reads.Post κs a r s → ring-reads.Post κs a r' s' → (r ≡ r') × (s.1.1.0.now ≡ s'.1.1.0.now)

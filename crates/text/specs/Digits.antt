@@ -1,8 +1,9 @@
 -- Digits read one after the other: what the digits from a place on give after a value already read, and when they are taken as a number.
 -- Assumes nothing.
-use Rattle.std.specs.Prelude.{◌≡◌, refl, Bool, true, false, cond, not, ◌&&◌, List, [], ◌∷◌, ℕ, ◌+◌, ◌-◌, ◌*◌, ◌^◌, ◌≤◌, ◌<◌, leb, length, get_or, drop}
+use Rattle.std.specs.Prelude.{◌≡◌, refl, Bool, true, false, cond, not, ◌&&◌, List, [], ◌∷◌, ℕ, ◌+◌, ◌-◌, ◌*◌, ◌^◌, ◌≤◌, ◌<◌, leb, eqb, length, get_or, take, drop}
+use lib.Pointwise.{pointwise}
 use Rattle.std.proofs.Math.Option.{Option, none, some}
-use Rattle.std.proofs.Common.{pow-suc, add-one, arith, lit<, drop-cons}
+use Rattle.std.proofs.Common.{sym, true≢false, pow-suc, add-one, arith, lit<, drop-cons}
 use Rattle.std.proofs.Math.Nat.{pow-le-pow_right}
 use borrow.Author.Tests.{le-leb, lt-leb, eq-eqb, ne_eqb}
 use Rattle.rules.specs.Lists.{all_of}
@@ -92,15 +93,24 @@ module _ (bs : List ℕ) where
 
 -- ---- a number
 
-pub number_empty : (bs : List ℕ) → length bs ≡ 0 → number bs ≡ none
+-- a minus stripped off, where there is one
+pub number_stripped : (bs digits : List ℕ) → pointwise eqb (take 1 bs) (minus ∷ []) ≡ true → digits ≡ drop 1 bs → number bs ≡ negated (unsigned digits)
 unfolding number
-number_empty [] h = refl
-number_empty (b ∷ bs) h = absurd (omega arith)
+number_stripped [] digits p q = absurd (true≢false (sym p))
+number_stripped (b ∷ bs) digits p q = go (eqb b minus) p
+  where
+    go : (t : Bool) → t && true ≡ true → cond t (negated (unsigned bs)) (not_negated_number (unsigned (b ∷ bs))) ≡ negated (unsigned digits)
+    go true e = rw q refl
+    go false e = absurd (true≢false (sym e))
 
-pub number-minus : (bs : List ℕ) → 0 < length bs → get_or bs 0 0 ≡ minus → number bs ≡ negated (unsigned (drop 1 bs))
+pub number_unstripped : (bs : List ℕ) → pointwise eqb (take 1 bs) (minus ∷ []) ≡ false → number bs ≡ not_negated_number (unsigned bs)
 unfolding number
-number-minus [] h e = absurd (omega arith)
-number-minus (b ∷ bs) h e = rw (eq-eqb b minus e) refl
+number_unstripped [] p = rw (unsigned_empty [] refl) refl
+number_unstripped (b ∷ bs) p = go (eqb b minus) p
+  where
+    go : (t : Bool) → t && true ≡ false → cond t (negated (unsigned bs)) (not_negated_number (unsigned (b ∷ bs))) ≡ not_negated_number (unsigned (b ∷ bs))
+    go true e = absurd (true≢false e)
+    go false e = refl
 
 pub number_plain : (bs : List ℕ) → 0 < length bs → (get_or bs 0 0 ≡ minus → ⊥) → number bs ≡ not_negated_number (unsigned bs)
 unfolding number

@@ -1,19 +1,15 @@
 -- What the reader's values say in the rules' words, and the outcome of reading a text.
 -- Assumes nothing.
-use Rattle.std.specs.Prelude.{◌≡◌, List, [], ◌∷◌, ℕ, ◌<◌, ◌≤◌, ℤ, length, drop}
+use Rattle.std.specs.Prelude.{◌≡◌, List, [], ◌∷◌, ℕ, ◌≤◌, ℤ, length, refl, Option as Held, Some, None, IsSome}
+use denote.Ref.{Bor}
 use Rattle.std.proofs.Math.Option.{Option, none, some}
-use Rattle.rules.specs.Streams.{Stream, stream}
+use Rattle.rules.specs.Streams.{Stream}
 use Rattle.rules.specs.Refusals.{Answer, refused, done, unless}
 use Rattle.rules.specs.Entries.{ring_short}
-use Rattle.rules.specs.Program.{Cut, unbroken, broken, cut_at, newline, line, samples}
-use Rattle.text.specs.declared.reading.Unsigned.{Unsigned}
-use Rattle.text.specs.declared.reading.Unsigned.TheVariants as unsigned
-use Rattle.text.specs.declared.reading.Number.{Number}
-use Rattle.text.specs.declared.reading.Number.TheVariants as number
-use Rattle.text.specs.declared.reading.Line.{Line}
-use Rattle.text.specs.declared.reading.Line.TheVariants as Line-of
-use Rattle.text.specs.declared.reading.Found.{Found}
-use Rattle.text.specs.declared.reading.Found.TheVariants as found
+use Rattle.rules.specs.Program.{Cut, unbroken, broken, line, samples}
+use Rattle.samples.specs.HeldStream.{stream_of}
+use Rattle.samples.specs.declared.streams.Stream as held
+use Rattle.text.specs.declared.reading.First.{First}
 
 -- ---- the outcome
 
@@ -27,22 +23,18 @@ samples_answer bs east north = with_room east north (samples bs)
 
 -- ---- the leaves
 
-abbrev pub unsigned_as : Unsigned → Option ℕ
-unsigned_as (unsigned.Natural n) = some n
-unsigned_as unsigned.Bad = none
+-- an optional value of the code
+abbrev pub option_as : {A : Type 0} → Held A → Option A
+option_as (Some x) = some x
+option_as None = none
 
--- 7 digits
-abbrev pub Small : Unsigned → Type 0
-Small (unsigned.Natural n) = n < 10000000
-Small unsigned.Bad = Unit
+abbrev pub line_as : Held held.Stream → Option Stream
+line_as (Some s) = some (stream_of s)
+line_as None = none
 
-abbrev pub number_as : Number → Option ℤ
-number_as (number.Whole z) = some z
-number_as number.Bad = none
-
-abbrev pub line_as : Line → Option Stream
-line_as (Line-of.Sample e n) = some (stream e n)
-line_as Line-of.Bad = none
+abbrev pub cut_as : List ℕ → Held (Bor (List ℕ) × Bor (List ℕ)) → Cut
+cut_as s (Some p) = broken p.0.now p.1.now
+cut_as s None = unbroken s
 
 -- ---- a line in its text
 
@@ -60,22 +52,18 @@ abbrev pub next_line : Cut → Next
 next_line (unbroken l) = bad_line
 next_line (broken l rest) = before_rest (line l) rest
 
-abbrev pub found_as : List ℕ → Found → Next
-found_as bs (found.Sample e n next) = good_line (stream e n) (drop next bs)
-found_as bs found.Bad = bad_line
+abbrev pub first_as : Held First → Next
+first_as (Some f) = good_line (stream_of f.sample) f.rest.now
+first_as None = bad_line
 
--- the next line starts further on
-abbrev pub Further : List ℕ → ℕ → Found → Type 0
-Further bs at (found.Sample e n next) = (at < next) × (next ≤ length bs)
-Further bs at found.Bad = Unit
+pub first_there : (r : Held First) → (first_as r ≡ bad_line → ⊥) → IsSome r
+first_there (Some f) h = refl
+first_there None h = absurd (h refl)
 
-pub record NextLine (bs : List ℕ) (at : ℕ) (r : Found) : Type 0 where
-  pub line : found_as bs r ≡ next_line (cut_at newline (drop at bs))
-  pub further : Further bs at r
-
--- a good text, and room for its samples
-pub record Fit (bs : List ℕ) (east north : List ℤ) : Type 0 where
+-- a good text of so many samples, and room for them
+pub record Fit (bs : List ℕ) (count : ℕ) (east north : List ℤ) : Type 0 where
   pub all : List Stream
   pub good : samples bs ≡ done all
-  pub east_room : length all ≤ length east
-  pub north_room : length all ≤ length north
+  pub many : count ≡ length all
+  pub east_room : count ≤ length east
+  pub north_room : count ≤ length north

@@ -1,8 +1,8 @@
 -- A text read line by line: what the lines read so far gave, and what that says of the whole text.
 -- Assumes nothing.
 use Rattle.std.proofs.Math.Path.{◌≡◌, refl}
-use Rattle.std.proofs.Common.{sym, ap, ◌∙◌, append_assoc, append-nil, add-one, arith, length-append, drop_of_length-le, drop-cons}
-use Rattle.std.specs.Prelude.{true, ◌||◌, List, [], ◌∷◌, ◌++◌, ℕ, zero, suc, ◌+◌, ◌-◌, ◌≤◌, ◌<◌, ltb, ℤ, length, drop}
+use Rattle.std.proofs.Common.{sym, ap, ◌∙◌, append_assoc, append-nil, add-one, arith, length-append}
+use Rattle.std.specs.Prelude.{true, ◌||◌, List, [], ◌∷◌, ◌++◌, ℕ, zero, suc, ◌+◌, ◌-◌, ◌≤◌, ◌<◌, ltb, ℤ, length}
 use Rattle.std.proofs.Math.Option.{Option, none, some}
 use borrow.Author.Tests.{le-ltb}
 use Rattle.rules.specs.Streams.{Stream}
@@ -18,8 +18,19 @@ after xs (done ys) = done (xs ++ ys)
 
 -- ---- one line
 
-first-line-at : (bs : List ℕ) (at : ℕ) → at < length bs → first_line (drop at bs) ≡ some (cut_at newline (drop at bs))
-first-line-at bs at h = rw (drop-cons bs at 0 h) refl
+first-line-some : (bs : List ℕ) → 0 < length bs → first_line bs ≡ some (cut_at newline bs)
+first-line-some [] h = absurd (omega arith)
+first-line-some (b ∷ bs) h = refl
+
+first-line-none : (bs : List ℕ) → length bs ≡ 0 → first_line bs ≡ none
+first-line-none [] h = refl
+first-line-none (b ∷ bs) h = absurd (omega arith)
+
+-- a good line has its newline
+not_empty : (bs : List ℕ) {s : Stream} {rest : List ℕ} → next_line (cut_at newline bs) ≡ good_line s rest → 0 < length bs
+unfolding cut_at
+not_empty [] e = let z : ◌≡◌ {A = ℕ} 0 1 = cc in absurd (omega arith)
+not_empty (b ∷ bs) e = omega arith
 
 pub text_bad : (room i : ℕ) (c : Cut) → next_line c ≡ bad_line → text (suc room) i (some c) ≡ refused 15 i
 unfolding text
@@ -59,83 +70,74 @@ text-end (suc room) i = refl
 
 -- ---- the lines read so far
 
--- so many lines, up to a place, gave these samples: what the text gives is what its rest gives, after them
-pub record Passed (bs : List ℕ) (at count : ℕ) (xs : List Stream) : Type 0 where
-  pub within : at ≤ length bs
-  pub few : count ≤ most_lines
+-- so many lines, up to a rest, gave these samples: what the text gives is what its rest gives, after them
+pub record Passed (bs rest : List ℕ) (count : ℕ) (xs : List Stream) : Type 0 where
   pub many : length xs ≡ count
-  pub so_far : samples bs ≡ after xs (text (most_lines - count) (suc count) (first_line (drop at bs)))
+  pub so_far : samples bs ≡ after xs (text (most_lines - count) (suc count) (first_line rest))
 
-pub passed_none : (bs : List ℕ) → Passed bs 0 0 []
+pub passed_none : (bs : List ℕ) → Passed bs bs 0 []
 unfolding samples
-passed_none bs = record {
-  within = omega arith;
-  few = omega arith;
-  many = refl;
-  so_far = sym (after_none (text most_lines 1 (first_line bs)));
-}
+passed_none bs = record { many = refl; so_far = sym (after_none (text most_lines 1 (first_line bs))) }
 
-module _ {bs : List ℕ} {at count : ℕ} {xs : List Stream} (p : Passed bs at count xs) where
-  pub passed_all : length bs ≤ at → samples bs ≡ done xs
-  passed_all h =
-      p.so_far ∙ rw (drop_of_length-le bs h, text-end (most_lines - count) (suc count)) (ap done (append-nil xs))
+module _ {bs rest : List ℕ} {count : ℕ} {xs : List Stream} (p : Passed bs rest count xs) where
+  pub passed_all : length rest ≡ 0 → samples bs ≡ done xs
+  passed_all e = p.so_far ∙ rw (first-line-none rest e, text-end (most_lines - count) (suc count)) (ap done (append-nil xs))
 
-  module _ (inside : at < length bs) where
-    pub passed_over : count ≡ most_lines → samples bs ≡ refused 2 0
-    unfolding text
-    passed_over e = p.so_far ∙ rw (first-line-at bs at inside, e) refl
+  pub passed_over : 0 < length rest → count ≡ most_lines → samples bs ≡ refused 2 0
+  unfolding text
+  passed_over has e = p.so_far ∙ rw (first-line-some rest has, e) refl
 
-    -- the line's number is one more
-    module _ (room : count < most_lines) where
-      left : most_lines - count ≡ suc (most_lines - (count + 1))
-      left = omega arith
+  -- the line's number is one more
+  module _ (room : count < most_lines) where
+    left : most_lines - count ≡ suc (most_lines - (count + 1))
+    left = omega arith
 
-      pub passed_bad : next_line (cut_at newline (drop at bs)) ≡ bad_line → samples bs ≡ refused 15 (count + 1)
-      passed_bad e =
+    pub passed_bad : 0 < length rest → next_line (cut_at newline rest) ≡ bad_line → samples bs ≡ refused 15 (count + 1)
+    passed_bad has e =
+        p.so_far
+        ∙ rw (first-line-some rest has, left, text_bad (most_lines - (count + 1)) (suc count) (cut_at newline rest) e, add-one) refl
+
+    pub passed_more : (s : Stream) (next : List ℕ) → next_line (cut_at newline rest) ≡ good_line s next → Passed bs next (count + 1) (xs ++ (s ∷ []))
+    passed_more s next e = record {
+      many = length-append xs (s ∷ []) ∙ omega (arith, p.many);
+      so_far =
           p.so_far
-          ∙ rw (first-line-at bs at inside, left, text_bad (most_lines - (count + 1)) (suc count) (cut_at newline (drop at bs)) e, add-one) refl
-
-      pub passed_more : (s : Stream) (next : ℕ) → next_line (cut_at newline (drop at bs)) ≡ good_line s (drop next bs) → next ≤ length bs →
-          Passed bs next (count + 1) (xs ++ (s ∷ []))
-      passed_more s next e h = record {
-        within = h;
-        few = omega arith;
-        many = length-append xs (s ∷ []) ∙ omega (arith, p.many);
-        so_far =
-            p.so_far
-            ∙ rw (
-              first-line-at bs at inside,
-              left,
-              text_good (most_lines - (count + 1)) (suc count) (cut_at newline (drop at bs)) s (drop next bs) e,
-              add-one,
-            )
-            (after-sample xs s (suc count) (text (most_lines - suc count) (suc (suc count)) (first_line (drop next bs))));
-      }
+          ∙ rw (
+            first-line-some rest (not_empty rest e),
+            left,
+            text_good (most_lines - (count + 1)) (suc count) (cut_at newline rest) s next e,
+            add-one,
+          )
+          (after-sample xs s (suc count) (text (most_lines - suc count) (suc (suc count)) (first_line next)));
+    }
 
 -- ---- a good text
 
 not_done : {k q : ℕ} {all : List Stream} → ◌≡◌ {A = Answer (List Stream)} (refused k q) (done all) → ⊥
 not_done e = let z : ◌≡◌ {A = ℕ} 0 1 = cc in omega arith
 
-module _ {bs : List ℕ} {at count : ℕ} {xs all : List Stream} (p : Passed bs at count xs) (good : samples bs ≡ done all) where
-  pub count-within : count ≤ length all
-  count-within = go (text (most_lines - count) (suc count) (first_line (drop at bs))) (sym p.so_far ∙ good)
+module _ {bs rest : List ℕ} {count : ℕ} {xs all : List Stream} (p : Passed bs rest count xs) (good : samples bs ≡ done all) where
+  -- as many samples as all are all
+  pub same_all : count ≡ length all → xs ≡ all
+  same_all n = go (text (most_lines - count) (suc count) (first_line rest)) (sym p.so_far ∙ good)
     where
-      go : (y : Answer (List Stream)) → after xs y ≡ done all → count ≤ length all
+      go : (y : Answer (List Stream)) → after xs y ≡ done all → xs ≡ all
       go (refused k q) e = absurd (not_done e)
-      go (done ys) e =
-          let f : xs ++ ys ≡ all = cc in
-          omega (arith, p.many, ap length (sym f), length-append xs ys)
+      go (done []) e = let f : xs ++ [] ≡ all = cc in sym (append-nil xs) ∙ f
+      go (done (y ∷ ys)) e =
+          let f : xs ++ (y ∷ ys) ≡ all = cc in
+          absurd (omega (arith, n, p.many, ap length (sym f), length-append xs (y ∷ ys)))
 
-  pub more_room : at < length bs → count < most_lines
-  more_room inside = go (most_lines - count) refl
+  -- fewer are followed by a good line
+  pub never_bad : count < length all → count < most_lines → next_line (cut_at newline rest) ≡ bad_line → ⊥
+  never_bad few room e = go (length rest) refl
     where
-      go : (m : ℕ) → most_lines - count ≡ m → count < most_lines
-      go zero e = absurd (not_done (sym (passed_over p inside (omega (arith, p.few))) ∙ good))
-      go (suc m) e = omega arith
-
-  pub never_bad : at < length bs → next_line (cut_at newline (drop at bs)) ≡ bad_line → ⊥
-  never_bad inside e = not_done (sym (passed_bad p inside (more_room inside) e) ∙ good)
+      go : (n : ℕ) → length rest ≡ n → ⊥
+      go zero q =
+          let f : samples bs ≡ done xs = passed_all p q in
+          let g : xs ≡ all = cc in
+          omega (arith, p.many, ap length g)
+      go (suc n) q = not_done (sym (passed_bad p room (omega arith) e) ∙ good)
 
 -- ---- at most so many samples as lines
 
@@ -179,21 +181,22 @@ module _ (bs : List ℕ) (es ns : List ℤ) where
       go (refused k q) s e = let z : ◌≡◌ {A = ℕ} 0 1 = cc in absurd (omega arith)
       go (done xs) s e = (xs, s, cc)
 
-  pub fit_answer : (f : Fit bs es ns) → samples_answer bs es ns ≡ done f.all
+  pub fit_answer : {n : ℕ} (f : Fit bs n es ns) → samples_answer bs es ns ≡ done f.all
   unfolding samples_answer
   fit_answer f =
       rw f.good
-      (simp (le-ltb (length es) (length f.all) f.east_room, le-ltb (length ns) (length f.all) f.north_room) refl)
+      (simp (le-ltb (length es) (length f.all) (omega (arith, f.many, f.east_room)), le-ltb (length ns) (length f.all) (omega (arith, f.many, f.north_room)))
+      refl)
 
   module _ (n : ℕ) (decided : done n ≡ counted (samples bs)) where
     pub short : (ltb (length es) n || ltb (length ns) n) ≡ true → samples_answer bs es ns ≡ refused 5 0
     unfolding samples_answer
     short h = let g = good_text n decided in rw (g.1, ← g.2, h) refl
 
-    pub fit : n ≤ length es → n ≤ length ns → Fit bs es ns
+    pub fit : n ≤ length es → n ≤ length ns → Fit bs n es ns
     fit l h =
         let g = good_text n decided in
-        record { all = g.0; good = g.1; east_room = omega (arith, g.2); north_room = omega (arith, g.2) }
+        record { all = g.0; good = g.1; many = g.2; east_room = l; north_room = h }
 
     pub fit_count : n ≤ length es → n ≤ length ns → done n ≡ counted (samples_answer bs es ns)
     fit_count l h = decided ∙ sym (ap counted (fit_answer (fit l h)) ∙ ap counted (sym (fit l h).good))

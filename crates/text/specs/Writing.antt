@@ -4,12 +4,12 @@ use Rattle.std.specs.Prelude.{◌≡◌, refl, List, [], ◌∷◌, ◌++◌, ma
 use Rattle.std.proofs.Common.{sym, ap, ◌∙◌, append_assoc, arith, length-append, length-drop, drop-cons}
 use Rattle.std.proofs.lemmas.List.{map-append, length-map, set_at}
 use Rattle.rules.specs.Lists.{written}
-use Rattle.rules.specs.Streams.{Stream, stream}
+use Rattle.rules.specs.Streams.{Stream}
 use Rattle.rules.specs.Refusals.{output_after}
 use Rattle.rules.specs.Entries.{easts, norths}
-use Rattle.rules.specs.Program.{cut_at, newline}
-use Rattle.text.specs.TextAnswers.{samples_answer, next_line, good_line, Fit}
-use Rattle.text.specs.TextLines.{Passed, passed_none, passed_more, passed_all, count-within, more_room, fit_answer}
+use Rattle.rules.specs.Program.{cut_at, newline, most_lines}
+use Rattle.text.specs.TextAnswers.{samples_answer, next_line, bad_line, good_line, Fit}
+use Rattle.text.specs.TextLines.{Passed, passed_none, passed_more, same_all, never_bad, samples_few, fit_answer}
 
 module _ {A : Type 0} where
   -- one more item, after the result so far
@@ -32,55 +32,53 @@ module _ (part : Stream → ℤ) (xs : List Stream) (old out : List ℤ) (out_is
       ∙ written_more (map part xs) old n (part s) (length-map xs part ∙ e) h
       ∙ ap (λ (l : List ℤ). written l old) (sym (map-append part xs (s ∷ [])))
 
-pub record Writing (bs : List ℕ) (es₀ ns₀ : List ℤ) (at count : ℕ) (es ns : List ℤ) : Type 0 where
+pub record Writing (bs : List ℕ) (es₀ ns₀ : List ℤ) (rest : List ℕ) (count : ℕ) (es ns : List ℤ) : Type 0 where
   pub so_far : List Stream
-  pub passed : Passed bs at count so_far
+  pub passed : Passed bs rest count so_far
   pub east_is : es ≡ written (easts so_far) es₀
   pub north_is : ns ≡ written (norths so_far) ns₀
 
-pub writing_none : (bs : List ℕ) (es ns : List ℤ) → Writing bs es ns 0 0 es ns
+pub writing_none : (bs : List ℕ) (es ns : List ℤ) → Writing bs es ns bs 0 es ns
 writing_none bs es ns = record { so_far = []; passed = passed_none bs; east_is = refl; north_is = refl }
 
-module _ {bs : List ℕ} {es₀ ns₀ : List ℤ} {at count : ℕ} {es ns : List ℤ} (f : Fit bs es₀ ns₀) (w : Writing bs es₀ ns₀ at count es ns) where
-  so_many : length w.so_far ≤ length f.all
-  so_many = omega (arith, w.passed.many, count-within w.passed f.good)
+module _
+    {bs : List ℕ}
+    {n : ℕ}
+    {es₀ ns₀ : List ℤ}
+    {rest : List ℕ}
+    {count : ℕ}
+    {es ns : List ℤ}
+    (f : Fit bs n es₀ ns₀)
+    (w : Writing bs es₀ ns₀ rest count es ns)
+  where
+    pub room : count < n → count < most_lines
+    room h = omega (arith, f.many, samples_few bs f.all f.good)
 
-  same-all : length bs ≤ at → w.so_far ≡ f.all
-  same-all h =
-      let read = passed_all w.passed h in
-      let good = f.good in
-      cc
+    pub line_comes : count < n → next_line (cut_at newline rest) ≡ bad_line → ⊥
+    line_comes h e = never_bad w.passed f.good (omega (arith, f.many)) (room h) e
 
-  pub east-length : length es ≡ length es₀
-  east-length = part_length (λ s. s.east) w.so_far es₀ es w.east_is (omega (arith, so_many, f.east_room))
+    pub east-length : count ≤ n → length es ≡ length es₀
+    east-length h = part_length (λ s. s.east) w.so_far es₀ es w.east_is (omega (arith, w.passed.many, f.east_room))
 
-  pub north-length : length ns ≡ length ns₀
-  north-length = part_length (λ s. s.north) w.so_far ns₀ ns w.north_is (omega (arith, so_many, f.north_room))
+    pub north-length : count ≤ n → length ns ≡ length ns₀
+    north-length h = part_length (λ s. s.north) w.so_far ns₀ ns w.north_is (omega (arith, w.passed.many, f.north_room))
 
-  pub east_after : length bs ≤ at → es ≡ output_after easts (samples_answer bs es₀ ns₀) es₀
-  east_after h = w.east_is ∙ rw (fit_answer bs es₀ ns₀ f) (ap (λ (xs : List Stream). written (easts xs) es₀) (same-all h))
+    pub east_after : count ≡ n → es ≡ output_after easts (samples_answer bs es₀ ns₀) es₀
+    east_after h =
+        w.east_is
+        ∙ rw (fit_answer bs es₀ ns₀ f) (ap (λ (xs : List Stream). written (easts xs) es₀) (same_all w.passed f.good (h ∙ f.many)))
 
-  pub north_after : length bs ≤ at → ns ≡ output_after norths (samples_answer bs es₀ ns₀) ns₀
-  north_after h = w.north_is ∙ rw (fit_answer bs es₀ ns₀ f) (ap (λ (xs : List Stream). written (norths xs) ns₀) (same-all h))
+    pub north_after : count ≡ n → ns ≡ output_after norths (samples_answer bs es₀ ns₀) ns₀
+    north_after h =
+        w.north_is
+        ∙ rw (fit_answer bs es₀ ns₀ f) (ap (λ (xs : List Stream). written (norths xs) ns₀) (same_all w.passed f.good (h ∙ f.many)))
 
-  -- one more line
-  module _
-      (inside : at < length bs)
-      (e n : ℤ)
-      (next : ℕ)
-      (good : next_line (cut_at newline (drop at bs)) ≡ good_line (stream e n) (drop next bs))
-      (within : next ≤ length bs)
-    where
-      further : Passed bs next (count + 1) (w.so_far ++ (stream e n ∷ []))
-      further = passed_more w.passed inside (more_room w.passed f.good inside) (stream e n) next good within
-
-      pub room : count < length f.all
-      room = omega (arith, count-within further f.good)
-
-      pub writing_more : Writing bs es₀ ns₀ next (count + 1) (set es count e) (set ns count n)
-      writing_more = record {
-        so_far = w.so_far ++ (stream e n ∷ []);
-        passed = further;
-        east_is = part_more (λ s. s.east) w.so_far es₀ es w.east_is (stream e n) count w.passed.many (omega (arith, room, f.east_room));
-        north_is = part_more (λ s. s.north) w.so_far ns₀ ns w.north_is (stream e n) count w.passed.many (omega (arith, room, f.north_room));
-      }
+    -- one more line
+    pub writing_more : (s : Stream) (next : List ℕ) → next_line (cut_at newline rest) ≡ good_line s next → count < n →
+        Writing bs es₀ ns₀ next (count + 1) (set es count s.east) (set ns count s.north)
+    writing_more s next good h = record {
+      so_far = w.so_far ++ (s ∷ []);
+      passed = passed_more w.passed (room h) s next good;
+      east_is = part_more (λ s. s.east) w.so_far es₀ es w.east_is s count w.passed.many (omega (arith, f.east_room));
+      north_is = part_more (λ s. s.north) w.so_far ns₀ ns w.north_is s count w.passed.many (omega (arith, f.north_room));
+    }

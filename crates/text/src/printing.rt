@@ -1,20 +1,12 @@
 // The program's answer, printed at the front of a buffer whose rest stays as it is.
 
-ghost use Rattle.std.specs.Prelude.{◌≡◌, [], ◌∷◌, ◌++◌, ◌+◌, ◌≤◌, nat_abs, length};
+ghost use Rattle.std.specs.Prelude.{◌≡◌, [], ◌∷◌, ◌++◌, ◌+◌, ◌≤◌, length};
 ghost use Rattle.rules.specs.Lists.{written};
 ghost use Rattle.rules.specs.Streams.{streams};
 ghost use Rattle.rules.specs.Refusals.{refused, done};
 ghost use Rattle.rules.specs.Program.{printed_natural, printed_whole, printed_corners, printed};
 ghost use Rattle.samples.specs.Placed.{Put};
 ghost use Rattle.text.specs.PrintedCorners.{printed_corner};
-
-const NEWLINE: u8 = 10;
-
-const SPACE: u8 = 32;
-
-const MINUS: u8 = 45;
-
-const ZERO: u8 = 48;
 
 // "ring" and the corner count, then a line per corner: how many bytes that are.
 pub fn print_ring(east: &[i32], north: &[i32], out: &mut [u8]) -> usize
@@ -24,7 +16,7 @@ pub fn print_ring(east: &[i32], north: &[i32], out: &mut [u8]) -> usize
     ensures content { out.new ≡ written (printed (done (streams east.now north.now))) out.old }
 {
     let counted = put_headed(b"ring ", east.len(), out);
-    let at = put_byte(NEWLINE, out, counted);
+    let at = put_byte(b'\n', out, counted);
     put_corners(east, north, out, at)
 }
 
@@ -35,12 +27,13 @@ pub fn print_refusal(number: u32, place: usize, out: &mut [u8]) -> usize
     ensures content { out.new ≡ written (printed (refused number place)) out.old }
 {
     let numbered = put_headed(b"refused ", number as usize, out);
-    let spaced = put_byte(SPACE, out, numbered);
+    let spaced = put_byte(b' ', out, numbered);
     let placed = put_natural(place, out, spaced);
-    put_byte(NEWLINE, out, placed)
+    put_byte(b'\n', out, placed)
 }
 
-// A word and a number, at the front.
+// A word and a number, at the front. The buffer and a place go on side by side: as one struct, each contract below would name two fields before and after,
+// where `Put` has the buffer's two states and the two places.
 fn put_headed(word: &[u8], n: usize, out: &mut [u8]) -> usize
     requires { length word.now + length (printed_natural n) ≤ length out.old }
     ensures { Put (word.now ++ printed_natural n) 0 out.old out.new result }
@@ -56,10 +49,8 @@ fn put_corners(east: &[i32], north: &[i32], out: &mut [u8], from: usize) -> usiz
     ensures { Put (printed_corners (streams east.now north.now)) from out.old out.new result }
 {
     let mut at = from;
-    let mut i: usize = 0;
-    while i < east.len() {
-        at = put_corner(east[i], north[i], out, at);
-        i += 1;
+    for (e, n) in east.iter().zip(north) {
+        at = put_corner(*e, *n, out, at);
     }
     at
 }
@@ -70,9 +61,9 @@ fn put_corner(east: i32, north: i32, out: &mut [u8], at: usize) -> usize
     ensures { Put (printed_corner east north) at out.old out.new result }
 {
     let easted = put_whole(east, out, at);
-    let spaced = put_byte(SPACE, out, easted);
+    let spaced = put_byte(b' ', out, easted);
     let northed = put_whole(north, out, spaced);
-    put_byte(NEWLINE, out, northed)
+    put_byte(b'\n', out, northed)
 }
 
 // A whole number.
@@ -81,23 +72,13 @@ fn put_whole(z: i32, out: &mut [u8], at: usize) -> usize
     ensures { Put (printed_whole z) at out.old out.new result }
 {
     if z < 0 {
-        let next = put_byte(MINUS, out, at);
-        return put_natural(magnitude(z), out, next);
+        let next = put_byte(b'-', out, at);
+        return put_natural(z.unsigned_abs() as usize, out, next);
     }
-    put_natural(magnitude(z), out, at)
+    put_natural(z.unsigned_abs() as usize, out, at)
 }
 
-// A whole number without its sign.
-fn magnitude(z: i32) -> usize
-    ensures { result ≡ nat_abs z }
-{
-    if 0 <= z {
-        return z as usize;
-    }
-    (-(z as i64)) as usize
-}
-
-// A number, from its last digit to its first.
+// A number, from its last digit to its first. By hand, as a String would need the heap.
 fn put_natural(n: usize, out: &mut [u8], at: usize) -> usize
     requires { at + length (printed_natural n) ≤ length out.old }
     ensures { Put (printed_natural n) at out.old out.new result }
@@ -106,11 +87,11 @@ fn put_natural(n: usize, out: &mut [u8], at: usize) -> usize
     let mut left = n;
     let mut i = next - 1;
     while 10 <= left {
-        out[i] = ZERO + (left % 10) as u8;
+        out[i] = b'0' + (left % 10) as u8;
         left = left / 10;
         i -= 1;
     }
-    out[i] = ZERO + left as u8;
+    out[i] = b'0' + left as u8;
     next
 }
 
@@ -132,12 +113,9 @@ fn put(bytes: &[u8], out: &mut [u8], at: usize) -> usize
     requires { at + length bytes.now ≤ length out.old }
     ensures { Put bytes.now at out.old out.new result }
 {
-    let mut i: usize = 0;
-    while i < bytes.len() {
-        out[at + i] = bytes[i];
-        i += 1;
-    }
-    at + i
+    let next = at + bytes.len();
+    out[at..next].copy_from_slice(bytes);
+    next
 }
 
 fn put_byte(b: u8, out: &mut [u8], at: usize) -> usize

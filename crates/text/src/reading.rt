@@ -1,274 +1,158 @@
 // The program's text, read: lines "east north" in decimal, at most 512.
 
-ghost use Rattle.std.specs.Prelude.{◌≡◌, ◌+◌, ◌≤◌, ◌<◌, length, drop};
-ghost use Rattle.rules.specs.Lists.{first_place};
+ghost use Rattle.std.specs.Prelude.{◌≡◌, ◌+◌, ◌≤◌, ◌<◌, ◌==◌, length, position, IfSome};
 ghost use Rattle.rules.specs.Refusals.{output_after};
 ghost use Rattle.rules.specs.Entries.{easts, norths, counted};
-ghost use Rattle.rules.specs.Program.{samples as samples-of, unsigned, negated, not_negated_number, number, both, line};
-ghost use Rattle.text.specs.Cuts.{is};
+ghost use Rattle.rules.specs.Program.{samples as samples-of, unsigned, number, line, cut_at, newline};
+ghost use Rattle.samples.specs.Answers.{answer_of};
 ghost use Rattle.text.specs.Digits.{digits_after};
-ghost use Rattle.samples.specs.CountedAnswers.{counted_as};
-ghost use Rattle.text.specs.TextAnswers.{samples_answer, unsigned_as, Small, number_as, line_as, NextLine, Fit};
+ghost use Rattle.text.specs.TextAnswers.{samples_answer, option_as, line_as, cut_as, first_as, next_line, Fit};
 
-use samples::answers::Counted;
+use samples::refusals::{Reason, Refusal};
+use samples::streams::Stream;
 use samples::tests::too_short;
-
-const NEWLINE: u8 = 10;
-
-const SPACE: u8 = 32;
-
-const MINUS: u8 = 45;
-
-const ZERO: u8 = 48;
-
-const NINE: u8 = 57;
 
 // at most so many lines
 const MOST_LINES: usize = 512;
 
-// What digits give.
+// What the first line of a text gives: its sample, and the text after it.
 #[derive(Clone, Copy)]
-enum Unsigned {
-    Natural(u32),
-    Bad,
-}
-
-// What a number, with or without a minus, gives.
-#[derive(Clone, Copy)]
-enum Number {
-    Whole(i32),
-    Bad,
-}
-
-// What a line gives, without its newline.
-#[derive(Clone, Copy)]
-enum Line {
-    Sample { east: i32, north: i32 },
-    Bad,
-}
-
-// What the line at a place of a text gives: its sample and where the next line starts.
-#[derive(Clone, Copy)]
-enum Found {
-    Sample { east: i32, north: i32, next: usize },
-    Bad,
+struct First<'a> {
+    sample: Stream,
+    rest: &'a [u8],
 }
 
 // The samples of a text at the front of the two outputs. The whole text is decided before anything is written, so that a refusal alters neither.
-pub fn samples(text: &[u8], east: &mut [i32], north: &mut [i32]) -> Counted
-    ensures answer { counted_as result ≡ counted (samples_answer text.now east.old north.old) }
+pub fn samples(text: &[u8], east: &mut [i32], north: &mut [i32]) -> Result<usize, Refusal>
+    ensures answer { answer_of result ≡ counted (samples_answer text.now east.old north.old) }
     ensures east { east.new ≡ output_after easts (samples_answer text.now east.old north.old) east.old }
     ensures north { north.new ≡ output_after norths (samples_answer text.now east.old north.old) north.old }
 {
-    match decide(text) {
-        Counted::Refused { number, place } => Counted::Refused { number, place },
-        Counted::Count(count) => {
-            if too_short(east.len(), north.len(), count) {
-                return Counted::Refused {
-                    number: 5,
-                    place: 0,
-                };
-            }
-            write(text, east, north);
-            Counted::Count(count)
-        }
+    let count = decide(text)?;
+    if too_short(east.len(), north.len(), count) {
+        return Err(Reason::OutputShort.into());
     }
+    write(text, count, east, north);
+    Ok(count)
 }
 
 // How many samples a text has, or its refusal.
-fn decide(text: &[u8]) -> Counted
-    ensures { counted_as result ≡ counted (samples-of text.now) }
+fn decide(text: &[u8]) -> Result<usize, Refusal>
+    ensures { answer_of result ≡ counted (samples-of text.now) }
 {
-    let mut at: usize = 0;
-    let mut count: usize = 0;
-    while at < text.len() {
-        if count == MOST_LINES {
-            return Counted::Refused {
-                number: 2,
-                place: 0,
-            };
+    let mut rest = text;
+    for count in 0..MOST_LINES {
+        if rest.is_empty() {
+            return Ok(count);
         }
-        match line_at(text, at) {
-            Found::Sample {
-                east: _,
-                north: _,
-                next,
-            } => {
-                at = next;
-            }
-            Found::Bad => {
-                return Counted::Refused {
-                    number: 15,
-                    place: count + 1,
-                };
-            }
-        }
-        count += 1;
+        let Some(first) = first_line(rest) else {
+            return Err(Reason::BadText.at(count + 1));
+        };
+        rest = first.rest;
     }
-    Counted::Count(count)
+    if rest.is_empty() {
+        return Ok(MOST_LINES);
+    }
+    Err(Reason::TooMany.into())
 }
 
 // The samples of a good text, written. Such a text has no bad line.
-fn write(text: &[u8], east: &mut [i32], north: &mut [i32])
-    requires { Fit text.now east.old north.old }
+fn write(text: &[u8], count: usize, east: &mut [i32], north: &mut [i32])
+    requires { Fit text.now count east.old north.old }
     ensures east { east.new ≡ output_after easts (samples_answer text.now east.old north.old) east.old }
     ensures north { north.new ≡ output_after norths (samples_answer text.now east.old north.old) north.old }
 {
-    let mut at: usize = 0;
-    let mut i: usize = 0;
-    while at < text.len() {
-        match line_at(text, at) {
-            Found::Sample {
-                east: e,
-                north: n,
-                next,
-            } => {
-                east[i] = e;
-                north[i] = n;
-                at = next;
-            }
-            Found::Bad => {
-                return;
-            }
-        }
-        i += 1;
+    let mut rest = text;
+    for i in 0..count {
+        let first = first_line(rest).unwrap();
+        east[i] = first.sample.east;
+        north[i] = first.sample.north;
+        rest = first.rest;
     }
 }
 
-// The line that starts at a place.
-fn line_at(text: &[u8], at: usize) -> Found
-    requires { at < length text.now }
-    ensures { NextLine text.now at result }
+// The first line of a text.
+fn first_line(text: &[u8]) -> Option<First<'_>>
+    ensures { first_as result ≡ next_line (cut_at newline text.now) }
 {
-    let end = place_of(text, at, NEWLINE);
-    if end == text.len() {
-        return Found::Bad;
-    }
-    match read_line(&text[at..end]) {
-        Line::Sample { east, north } => Found::Sample {
-            east,
-            north,
-            next: end + 1,
-        },
-        Line::Bad => Found::Bad,
-    }
+    let (line, rest) = cut_at(text, b'\n')?;
+    let sample = read_line(line)?;
+    Some(First { sample, rest })
 }
 
 // "east north", one space.
-fn read_line(s: &[u8]) -> Line
+fn read_line(s: &[u8]) -> Option<Stream>
     ensures { line_as result ≡ line s.now }
 {
-    let cut = place_of(s, 0, SPACE);
-    if cut == s.len() {
-        return Line::Bad;
-    }
-    both(read_number(&s[0..cut]), read_number(&s[cut + 1..]))
+    let (east, north) = cut_at(s, b' ')?;
+    let east = read_number(east)?;
+    let north = read_number(north)?;
+    Some(Stream { east, north })
 }
 
-// A line is good if both its numbers are.
-fn both(east: Number, north: Number) -> Line
-    ensures { line_as result ≡ both (number_as east) (number_as north) }
+// What stands before the first byte that equals b, and what after it.
+fn cut_at(s: &[u8], b: u8) -> Option<(&[u8], &[u8])>
+    ensures { cut_as s.now result ≡ cut_at b s.now }
 {
-    match east {
-        Number::Bad => Line::Bad,
-        Number::Whole(e) => match north {
-            Number::Bad => Line::Bad,
-            Number::Whole(n) => Line::Sample { east: e, north: n },
-        },
-    }
+    let place = place_of(s, b)?;
+    Some((&s[..place], &s[place + 1..]))
 }
 
-// An optional minus, then digits.
-fn read_number(s: &[u8]) -> Number
-    ensures { number_as result ≡ number s.now }
+// The first place that has the byte b.
+fn place_of(s: &[u8], b: u8) -> Option<usize>
+    ensures { result ≡ position (λ x. x == b) s.now }
 {
-    if s.len() == 0 {
-        return Number::Bad;
-    }
-    if s[0] == MINUS {
-        return negated(read_unsigned(&s[1..]));
-    }
-    not_negated(read_unsigned(s))
+    s.iter().position(|x| *x == b)
 }
 
-// After a minus: no "-0".
-fn negated(u: Unsigned) -> Number
-    requires { Small u }
-    ensures { number_as result ≡ negated (unsigned_as u) }
+// An optional minus, then digits; no "-0".
+fn read_number(s: &[u8]) -> Option<i32>
+    ensures { option_as result ≡ number s.now }
 {
-    match u {
-        Unsigned::Bad => Number::Bad,
-        Unsigned::Natural(n) => {
+    match s.strip_prefix(b"-") {
+        Some(digits) => {
+            let n = read_unsigned(digits)?;
             if n == 0 {
-                return Number::Bad;
+                return None;
             }
-            Number::Whole(-(n as i32))
+            Some(-(n as i32))
         }
-    }
-}
-
-fn not_negated(u: Unsigned) -> Number
-    requires { Small u }
-    ensures { number_as result ≡ not_negated_number (unsigned_as u) }
-{
-    match u {
-        Unsigned::Bad => Number::Bad,
-        Unsigned::Natural(n) => Number::Whole(n as i32),
+        None => {
+            let n = read_unsigned(s)?;
+            Some(n as i32)
+        }
     }
 }
 
 // 1 to 7 digits, no leading zero.
-fn read_unsigned(s: &[u8]) -> Unsigned
-    ensures value { unsigned_as result ≡ unsigned s.now }
-    ensures small { Small result }
+fn read_unsigned(s: &[u8]) -> Option<u32>
+    ensures value { option_as result ≡ unsigned s.now }
+    ensures small { IfSome result (λ n. n < 10000000) }
 {
-    if s.len() == 0 {
-        return Unsigned::Bad;
+    if s.is_empty() {
+        return None;
     }
     if 7 < s.len() {
-        return Unsigned::Bad;
+        return None;
     }
-    if 1 < s.len() {
-        if s[0] == ZERO {
-            return Unsigned::Bad;
-        }
+    if 1 < s.len() && s[0] == b'0' {
+        return None;
     }
     read_digits(s)
 }
 
 // The value of digits.
-fn read_digits(s: &[u8]) -> Unsigned
+fn read_digits(s: &[u8]) -> Option<u32>
     requires { length s.now ≤ 7 }
-    ensures value { unsigned_as result ≡ digits_after 0 s.now }
-    ensures small { Small result }
+    ensures value { option_as result ≡ digits_after 0 s.now }
+    ensures small { IfSome result (λ n. n < 10000000) }
 {
     let mut n: u32 = 0;
-    let mut i: usize = 0;
-    while i < s.len() {
-        let b = s[i];
-        if b < ZERO {
-            return Unsigned::Bad;
+    for b in s {
+        if !b.is_ascii_digit() {
+            return None;
         }
-        if NINE < b {
-            return Unsigned::Bad;
-        }
-        n = n * 10 + (b - ZERO) as u32;
-        i += 1;
+        n = n * 10 + (b - b'0') as u32;
     }
-    Unsigned::Natural(n)
-}
-
-// The first place from `from` on that has the byte; the length where none has.
-fn place_of(s: &[u8], from: usize, b: u8) -> usize
-    requires { from ≤ length s.now }
-    ensures { result ≡ from + first_place (is b) (drop from s.now) }
-{
-    let mut i = from;
-    while i < s.len() {
-        if s[i] == b {
-            return i;
-        }
-        i += 1;
-    }
-    i
+    Some(n)
 }

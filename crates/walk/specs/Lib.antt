@@ -1,4 +1,5 @@
 pub mod TwoRings
+pub mod HeldRings
 pub mod Ways
 pub mod Places
 pub mod Stacks

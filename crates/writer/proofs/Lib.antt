@@ -1,1 +1,2 @@
+pub mod FourBytes
 pub mod Outcomes

@@ -4,7 +4,7 @@ use Rattle.std.proofs.Common.{subst, arith}
 use mir.Facts.{to_z-of_z}
 use Rattle.rules.specs.Bridge.{ends}
 use Rattle.laws_rounds.specs.Rounds.{Found}
-use Rattle.samples.specs.Positions.{at}
+use Rattle.samples.specs.Sides.{seen}
 use Rattle.bridge.proofs.Bridging.{at_least_two, bridging_found, bridging_more, bridging_less}
 use Rattle.bridge.proofs.bridge_of.Goals as goal
 
@@ -15,24 +15,23 @@ round_of-requires c =
     let long = g.long in
     let fewer = g.fewer in
     record {
-      sampled = c.requires.sampled;
       listed = g.listed;
-      two = at_least_two (at c.args.e.now c.args.n.now c.args.lower) _ _ c.args.w.now c.args.count room g;
+      two = at_least_two (seen c.args.s) _ _ c.args.w.now c.args.count room g;
       room = omega arith;
     }
 
 pub returns-in-Found : goal.returns-in-Found
 returns-in-Found c =
-    let places = at c.args.e.now c.args.n.now c.args.lower in
+    let places = seen c.args.s in
     subst (λ (z : ℤ). Found places z (take c.args.count c.args.w.now) (ends c.in-Found.left c.in-Found.right)) (to_z-of_z c.ranges.a)
     (bridging_found places _ _ c.args.w.now c.args.count c.requires.room c.loop-left.invariant c.in-Found.ensures)
 
 pub loop-left-smaller : goal.loop-left-smaller
 loop-left-smaller c =
-    bridging_less (at c.args.e.now c.args.n.now c.args.lower) _ _ c.args.w.now c.args.count c.requires.room c.loop-left.invariant c.round_of.auto.w
+    bridging_less (seen c.args.s) _ _ c.args.w.now c.args.count c.requires.room c.loop-left.invariant c.round_of.auto.w
     c.in-Kept.ensures
 
 pub loop-left-preserved : goal.loop-left-preserved
 loop-left-preserved c =
-    bridging_more (at c.args.e.now c.args.n.now c.args.lower) _ _ c.args.w.now c.args.count c.requires.room c.loop-left.invariant c.round_of.auto.w
+    bridging_more (seen c.args.s) _ _ c.args.w.now c.args.count c.requires.room c.loop-left.invariant c.round_of.auto.w
     c.in-Kept.ensures

@@ -9,9 +9,9 @@ pub returns : goal.returns
 returns c =
     let l = c.loop-i in
     let n = c.args.n in
-    let long = l.invariant.1 in
+    let long = l.auto.w in
     let fits = c.requires.0 in
     let taken = length-take-le n l.w (omega arith) in
     ext_get_or 0 (take n l.w) (numbers n) (taken ∙ sym (numbers-length n))
     (λ j h. let below : j < n = omega arith in
-    get_or-take n l.w j 0 below ∙ l.invariant.2 j (omega arith) ∙ sym (numbers-at n j 0 below))
+    get_or-take n l.w j 0 below ∙ l.invariant j (omega arith) ∙ sym (numbers-at n j 0 below))

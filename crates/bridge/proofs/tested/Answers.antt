@@ -1,41 +1,38 @@
 -- The tests of samples, then the test for 6.
 use Rattle.std.specs.Prelude.{◌≡◌, Bool, cond, not, List, [], ◌∷◌, ℕ, ℤ, length, nat_eq}
-use Rattle.std.proofs.Common.{sym, ap, ◌∙◌, eqb-true}
+use Rattle.std.proofs.Common.{sym, ap, ap₂, ◌∙◌, eqb-true}
 use Rattle.std.proofs.lemmas.Bool.{not-false}
 use mir.Facts.{to_z-of_z}
 use Rattle.rules.specs.Streams.{streams}
 use Rattle.rules.specs.Bridge.{spans}
-use Rattle.rules.specs.Refusals.{test}
-use Rattle.samples.specs.declared.tests.Tested.{Tested}
-use Rattle.samples.specs.declared.tests.Tested.TheVariants.{Passed, Refused}
+use Rattle.rules.specs.Refusals.{Answer, refused, done, test, unless}
+use Rattle.samples.specs.Answers.{number_of}
 use Rattle.samples.specs.Positions.{easts_span}
 use Rattle.samples.specs.Samples.{samples_span}
-use Rattle.samples.specs.Tests.{tested_of, room_tests, then_tested, tested_by, passed_tests}
+use Rattle.samples.specs.InOrder.{None_hold, room_tests, answer_by, passed_by, passed_tests}
 use Rattle.bridge.specs.Promise.{bridge_tests}
 use Rattle.bridge.proofs.tested.Goals as goal
 
--- the test for 6, after the tests of samples
-abbrev six : Bool → Tested
-six b = cond (not b) (Refused 6 0) Passed
+-- where the tests of samples are passed, the easts decide
+decided : (es ns : List ℤ) (a : ℤ) (room : ℕ) {y : List ℤ × List ℤ} → done y ≡ unless (room_tests es ns room) (es, ns) → {b : Bool} → easts_span a es ≡ b
+    → unless (bridge_tests es ns a room) (es, ns) ≡ cond (not b) (refused 6 0) (done y)
+decided es ns a room {y} e s =
+    answer_by (room_tests es ns room) (test 6 0 (not (spans a (streams es ns))) ∷ []) (es, ns) (es, ns) (sym e)
+    ∙ ap₂ (λ (b : Bool) (x : Answer (List ℤ × List ℤ)). cond (not b) (refused 6 0) x) (samples_span a es ns even ∙ s) (sym (e ∙ passed_by (room_tests es ns room) n))
+  where
+    n : None_hold (room_tests es ns room)
+    n = passed_tests (es, ns) (room_tests es ns room) (sym e)
 
-module _ (es ns : List ℤ) (a : ℤ) (room : ℕ) where
-  after : {r : Tested} → tested_of (room_tests es ns room) ≡ r
-      → tested_of (bridge_tests es ns a room) ≡ then_tested r (six (spans a (streams es ns)))
-  after e = tested_by (room_tests es ns room) (test 6 0 (not (spans a (streams es ns))) ∷ []) e
+    even : length es ≡ length ns
+    even = eqb-true (length es) (length ns) (not-false (nat_eq (length es) (length ns)) n.0)
 
-  -- where the tests of samples are passed, the easts decide
-  decided : tested_of (room_tests es ns room) ≡ Passed → {b : Bool} → easts_span a es ≡ b → tested_of (bridge_tests es ns a room) ≡ six b
-  decided e s = after e ∙ ap six (samples_span a es ns even ∙ s)
-    where
-      even : length es ≡ length ns
-      even = let n = passed_tests (room_tests es ns room) e in eqb-true (length es) (length ns) (not-false (nat_eq (length es) (length ns)) n.0)
-
-pub returns-then-spans : goal.returns-then-spans
-returns-then-spans c =
+pub returns-then-not-spans : goal.returns-then-not-spans
+returns-then-not-spans c =
     let a = c.args in
-    sym (decided a.east.now a.north.now a.a a.room (sym c.in-Passed.ensures) (rw (to_z-of_z c.ranges.a) at (sym c.spans.ensures ∙ c.if-spans.true)))
+    ap (λ r. refused (number_of r.reason) r.place) c.into.ensures
+    ∙ sym (decided a.east.now a.north.now a.a a.room c.in_ok-samples.ensures (rw (to_z-of_z c.ranges.a) at (sym c.spans.ensures ∙ c.if-not-spans.true)))
 
-pub returns-else-spans : goal.returns-else-spans
-returns-else-spans c =
+pub returns : goal.returns
+returns c =
     let a = c.args in
-    sym (decided a.east.now a.north.now a.a a.room (sym c.in-Passed.ensures) (rw (to_z-of_z c.ranges.a) at (sym c.spans.ensures ∙ c.if-spans.false)))
+    sym (decided a.east.now a.north.now a.a a.room c.in_ok-samples.ensures (rw (to_z-of_z c.ranges.a) at (sym c.spans.ensures ∙ c.if-not-spans.false)))

@@ -4,17 +4,17 @@ use lib.Ieee.Casts.{to_signed_in}
 use mir.ValLaws.{to_z-of_z}
 use Rattle.door.proofs.Floats.{not-number, too_low, too_high, within, truncates, whole_part_fits, fraction_found, no_fraction, zero_taken, cast_fits, cast_taken}
 use Rattle.door.proofs.part.Goals as goal
+use Rattle.door.proofs.part.Goals.{then-x-2-via-then-x-2, then-x-2-via-else-x-2+then-x-3}
 
 pub returns-then-x : goal.returns-then-x
 returns-then-x c = not-number c.args.x c.if-x.true
 
 pub returns-then-x-2 : goal.returns-then-x-2
 unfolding of_bits neg
-returns-then-x-2 c = too_low c.args.x c.if-x-2.true
-
-pub returns-then-x-3 : goal.returns-then-x-3
-unfolding of_bits
-returns-then-x-3 c = too_high c.args.x c.if-x-3.true
+returns-then-x-2 c = elim c.then-x-2.branch [
+  | then-x-2-via-then-x-2 w ↦ too_low c.args.x w.if-x-2.true
+  | then-x-2-via-else-x-2+then-x-3 w ↦ too_high c.args.x w.if-x-3.true
+]
 
 pub truncating_f64_to_i64-requires : goal.truncating_f64_to_i64-requires
 unfolding of_bits neg

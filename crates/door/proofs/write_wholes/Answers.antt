@@ -1,4 +1,4 @@
-use Rattle.std.proofs.Common.{◌≡◌, get_or, ap, ◌∙◌, arith, length-set, w32, to_z, of_z}
+use Rattle.std.proofs.Common.{◌≡◌, get_or, ap, ◌∙◌, arith, w32, to_z, of_z}
 use lib.Ieee.{nan}
 use mir.ValLaws.{to_z-of_z}
 use Rattle.rules.specs.Door.{part}
@@ -8,12 +8,9 @@ use Rattle.door.proofs.write_wholes.Goals as goal
 
 pub loop-i-preserved : goal.loop-i-preserved
 loop-i-preserved c =
-    let stored : to_z w32 (of_z w32 c.whole_of.result) ≡ whole_of (part (get_or c.args.parts.now c.loop-i.i nan)) =
-    to_z-of_z w32 c.whole_of.result (record { sfits = c.whole_of.type_inv }) ∙ c.whole_of.ensures ∙ ap whole_of c.part.ensures in (
-      omega arith,
-      length-set c.loop-i.output c.loop-i.i (to_z w32 (of_z w32 c.whole_of.result)) ∙ c.loop-i.invariant.1,
-      rw (stored, c.loop-i.invariant.2) (front_more c.args.parts.now c.args.output.now c.loop-i.i (omega arith) (omega arith)),
-    )
+    let stored : to_z w32 (of_z w32 c.whole.result) ≡ whole_of (part (get_or c.args.parts.now c.loop-i.i nan)) =
+    to_z-of_z w32 c.whole.result (record { sfits = c.whole.type_inv }) ∙ c.whole.ensures ∙ ap whole_of c.part.ensures in
+    rw (stored, c.loop-i.invariant) (front_more c.args.parts.now c.args.output.now c.loop-i.i (omega arith) (omega arith))
 
 pub returns : goal.returns
-returns c = c.loop-i.invariant.2 ∙ front_all c.args.parts.now c.args.output.now c.loop-i.i (omega arith)
+returns c = c.loop-i.invariant ∙ front_all c.args.parts.now c.args.output.now c.loop-i.i (omega arith)

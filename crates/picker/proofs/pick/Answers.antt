@@ -1,30 +1,26 @@
--- `picker::pick` meets its promise: its tests in their order, then the pick among the keys, and all the scratch zero.
+-- `picker::pick` meets its promise: where none of its tests holds, what is picked among the keys tells the number of the rank, and all the scratch is zero.
 -- Assumes nothing.
-use Rattle.std.proofs.Common.{ℕ, arith, ap, ◌∙◌, w32}
-use Rattle.std.proofs.Math.ListN.{replicate}
+use Rattle.std.proofs.Common.{◌≡◌, ℕ, ◌+◌, ◌*◌, ◌≤◌, List, length, refl, arith, rules, ap, ◌∙◌, ℤ, w32, le-ltb, ne_eqb}
 use Rattle.std.proofs.Math.Facts.{to_z-of_z}
+use Rattle.rules.specs.Streams.{most}
+use Rattle.rules.specs.Picker.{rank}
+use Rattle.rules.specs.Refusals.{done}
+use Rattle.rules.specs.Entries.{pick_answer}
 use Rattle.picker.specs.KeyLaws.{picked-number}
-use Rattle.picker.proofs.Answers.{too_many_numbers, rank-zero, rank-beyond, short-scratch, all_well}
 use Rattle.picker.proofs.pick.Goals as goal
 
-pub returns-then-n-gt-MOST : goal.returns-then-n-gt-MOST
-returns-then-n-gt-MOST c = too_many_numbers (omega arith)
-
-pub returns-then-r-eq0 : goal.returns-then-r-eq0
-returns-then-r-eq0 c = rank-zero (omega arith) c.if-r-eq0.true
-
-pub returns-then-n-r : goal.returns-then-n-r
-returns-then-n-r c = rank-beyond (omega arith) c.if-r-eq0.false (omega arith)
-
-pub returns-then-scratch-n : goal.returns-then-scratch-n
-returns-then-scratch-n c = short-scratch (omega arith) c.if-r-eq0.false (omega arith) (omega arith)
+all_well : (xs : List ℤ) (r : ℕ) (given : List ℕ)
+    → length xs ≤ most
+    → (r ≡ 0 → ⊥)
+    → r ≤ length xs
+    → 16 * length xs + 64 ≤ length given
+    → pick_answer xs r given ≡ done (rank r xs)
+unfolding pick_answer
+all_well xs r given few least ranked room =
+    rw (le-ltb most (length xs) few, ne_eqb r 0 least, le-ltb (length xs) r ranked, le-ltb (length given) (16 * length xs + 64) room) refl
 
 pub returns : goal.returns
 returns c =
-    all_well
-    (omega arith)
-    c.if-r-eq0.false
-    (omega arith)
-    (omega arith)
-    (to_z-of_z {w = w32} (record { sfits = c.number.type_inv }) ∙ c.number.ensures ∙ picked-number c.load.ensures.words c.load.ensures.w_after c.pick_key-said.ensures)
-    (c.clear.ensures ∙ ap (λ (n : ℕ). replicate n 0) (c.pick_key-said.auto.w ∙ c.load.auto.w))
+    let e = all_well c.args.xs.now c.args.r c.args.scratch.now (omega arith) c.if-r-eq0.false (omega arith) (omega arith) in
+    let is = to_z-of_z {w = w32} (record { sfits = c.number.type_inv }) ∙ c.number.ensures ∙ picked-number c.load.ensures.words c.load.ensures.w_after (rw c.split_at_mut-keys.ensures.front at c.pick_key-key.ensures) in
+    record { answer = rw e (ap done is); scratch = rw e (search rules) }

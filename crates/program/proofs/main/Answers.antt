@@ -6,9 +6,9 @@ use Rattle.program.proofs.main.Goals as goal
 
 pub slice_bounds-out-end : goal.slice_bounds-out-end
 slice_bounds-out-end c =
-    answers_fit c.read.new.text c.in-Bytes.count c.answer_input-printed.result (replicate 18442 0) c.answer_input-printed.new.out c.answer_input-printed.ensures
+    answers_fit c.read.new.text c.in-Ok.count c.answer_input-printed.result (replicate 18442 0) c.answer_input-printed.new.out c.answer_input-printed.ensures
 
-pub slice_bounds-write_all-end-in-Bytes : goal.slice_bounds-write_all-end-in-Bytes
-slice_bounds-write_all-end-in-Bytes c =
+pub slice_bounds-write_all-end-2 : goal.slice_bounds-write_all-end-2
+slice_bounds-write_all-end-2 c =
     let o = c.answer_input-printed in
-    sym (length-take-le o.result o.new.out (answers_fit c.read.new.text c.in-Bytes.count o.result (replicate 18442 0) o.new.out o.ensures))
+    sym (length-take-le o.result o.new.out (answers_fit c.read.new.text c.in-Ok.count o.result (replicate 18442 0) o.new.out o.ensures))

@@ -1,151 +1,64 @@
-use Rattle.std.proofs.Common.{◌≡◌, refl, sym, ap, ◌∙◌, Bool, false, ◌||◌, List, ℕ, ◌/◌, ◌≤◌, ℤ, length, ltb, arith}
-use Rattle.rules.specs.Lists.{some_of, first_place}
-use Rattle.rules.specs.Streams.{most, beyond}
-use Rattle.rules.specs.Refusals.{done}
+use Rattle.std.proofs.Common.{◌≡◌, sym, ap, ◌∙◌, Bool, ◌||◌, List, ℕ, ℤ, length, ltb, eqb, arith, rules}
+use Rattle.rules.specs.Refusals.{done, refused}
 use Rattle.rules.specs.Record.{in_sense, corners_in}
-use Rattle.laws_records.specs.RecordCorners.{corners-count}
 use Rattle.laws_records.specs.InSense.{sense-length}
-use Rattle.samples.specs.Samples.{sample_near}
-use Rattle.samples.specs.Tests.{fits_both}
-use Rattle.reader.specs.RecordAnswers.{Passed}
-use Rattle.reader.specs.ReadTests.{refused_2, refused_3, refused_9, short, answered, none_beyond}
+use Rattle.samples.specs.Answers.{number_of}
+use Rattle.samples.specs.Forms.{sense_byte}
+use Rattle.envelope.specs.CornersNear.{none_beyond}
+use Rattle.reader.specs.RecordAnswers.{corners_refused, corners_done}
+use Rattle.reader.specs.ReadTests.{refused_2, refused_3, refused_9, short, answered, no_place}
 use Rattle.reader.proofs.read_corners.Goals as goal
 
--- what the tests so far say
-module _ (cs : List ℕ) where
-  few : length cs / 8 ≤ most → length (corners_in cs) ≤ most
-  few h = omega (arith, corners-count cs)
+-- the test of the outputs, of as many corners as were counted
+decided : (es ns : List ℤ) {n m : ℕ} {b t : Bool} → n ≡ m → b ≡ (ltb (length es) n || ltb (length ns) n) → b ≡ t → (ltb (length es) m || ltb (length ns) m) ≡ t
+decided es ns e h f = ap (λ (n : ℕ). ltb (length es) n || ltb (length ns) n) (sym e) ∙ sym h ∙ f
 
-  near : {place : ℕ} → place ≡ first_place beyond (corners_in cs) → length cs / 8 ≤ place → some_of beyond (corners_in cs) ≡ false
-  near {place} e h = none_beyond (corners_in cs) place e (omega (arith, corners-count cs))
-
-  passed : some_of beyond (corners_in cs) ≡ false → Passed cs (length cs / 8)
-  passed e = record { count = sym (corners-count cs); near = sample_near (corners_in cs) e }
-
-  -- the test of the outputs, which counts the corners
-  decided : (es ns : List ℤ) {b : Bool} → b ≡ (ltb (length es) (length cs / 8) || ltb (length ns) (length cs / 8)) →
-      (ltb (length es) (length (corners_in cs)) || ltb (length ns) (length (corners_in cs))) ≡ b
-  decided es ns e = ap (λ (n : ℕ). ltb (length es) n || ltb (length ns) n) (corners-count cs) ∙ sym e
-
-pub returns-then-n-gt-MOST-clause-answer : goal.returns-then-n-gt-MOST-clause-answer
-returns-then-n-gt-MOST-clause-answer c =
+pub returns-then-n-gt-MOST : goal.returns-then-n-gt-MOST
+returns-then-n-gt-MOST c =
     let a = c.args in
-    let cs = a.corners.now in
-    rw (refused_2 a.sense cs a.east.now a.north.now (omega (arith, corners-count cs, c.if-n-gt-MOST.true))) refl
+    corners_refused (ap (λ r. refused (number_of r.reason) r.place) c.into.ensures) (refused_2 (sense_byte a.sense) a.bytes.now a.east.now a.north.now (omega arith))
 
-pub returns-then-place-n-clause-answer : goal.returns-then-place-n-clause-answer
-returns-then-place-n-clause-answer c =
+pub returns-then-place-n : goal.returns-then-place-n
+returns-then-place-n c =
     let a = c.args in
-    let cs = a.corners.now in
-    rw
-    (refused_3 a.sense cs a.east.now a.north.now (few cs c.if-n-gt-MOST.false) c.first_beyond-place.result c.first_beyond-place.ensures
-    (omega (arith, corners-count cs, c.if-place-n.true)))
-    refl
-
-pub returns-then-not-is_envelope-clause-answer : goal.returns-then-not-is_envelope-clause-answer
-returns-then-not-is_envelope-clause-answer c =
-    let a = c.args in
-    let cs = a.corners.now in
-    rw (refused_9 a.sense cs a.east.now a.north.now (few cs c.if-n-gt-MOST.false) (near cs c.first_beyond-place.ensures c.if-place-n.false) (cc)) refl
-
-pub returns-then-too_short-clause-answer : goal.returns-then-too_short-clause-answer
-returns-then-too_short-clause-answer c =
-    let a = c.args in
-    let cs = a.corners.now in
-    rw (short a.sense cs a.east.now a.north.now (few cs c.if-n-gt-MOST.false) (near cs c.first_beyond-place.ensures c.if-place-n.false) (cc) (decided cs a.east.now a.north.now c.if-too_short.ensures)) refl
-
-pub returns-clause-answer : goal.returns-clause-answer
-unfolding in_sense
-returns-clause-answer c =
-    let a = c.args in
-    let cs = a.corners.now in
-    rw (answered a.sense cs a.east.now a.north.now (few cs c.if-n-gt-MOST.false) (near cs c.first_beyond-place.ensures c.if-place-n.false) (cc) (decided cs a.east.now a.north.now c.if-too_short.ensures))
-    (ap done (sym (sense-length a.sense (corners_in cs) (cc) ∙ corners-count cs)))
-
-pub returns-then-n-gt-MOST-clause-east : goal.returns-then-n-gt-MOST-clause-east
-returns-then-n-gt-MOST-clause-east c =
-    let a = c.args in
-    let cs = a.corners.now in
-    rw (refused_2 a.sense cs a.east.now a.north.now (omega (arith, corners-count cs, c.if-n-gt-MOST.true))) refl
-
-pub returns-then-place-n-clause-east : goal.returns-then-place-n-clause-east
-returns-then-place-n-clause-east c =
-    let a = c.args in
-    let cs = a.corners.now in
-    rw
-    (refused_3 a.sense cs a.east.now a.north.now (few cs c.if-n-gt-MOST.false) c.first_beyond-place.result c.first_beyond-place.ensures
-    (omega (arith, corners-count cs, c.if-place-n.true)))
-    refl
-
-pub returns-then-not-is_envelope-clause-east : goal.returns-then-not-is_envelope-clause-east
-returns-then-not-is_envelope-clause-east c =
-    let a = c.args in
-    let cs = a.corners.now in
-    rw (refused_9 a.sense cs a.east.now a.north.now (few cs c.if-n-gt-MOST.false) (near cs c.first_beyond-place.ensures c.if-place-n.false) (cc)) refl
-
-pub returns-then-too_short-clause-east : goal.returns-then-too_short-clause-east
-returns-then-too_short-clause-east c =
-    let a = c.args in
-    let cs = a.corners.now in
-    rw (short a.sense cs a.east.now a.north.now (few cs c.if-n-gt-MOST.false) (near cs c.first_beyond-place.ensures c.if-place-n.false) (cc) (decided cs a.east.now a.north.now c.if-too_short.ensures)) refl
-
-pub returns-clause-east : goal.returns-clause-east
-unfolding in_sense
-returns-clause-east c =
-    let a = c.args in
-    let cs = a.corners.now in
-    rw (answered a.sense cs a.east.now a.north.now (few cs c.if-n-gt-MOST.false) (near cs c.first_beyond-place.ensures c.if-place-n.false) (cc) (decided cs a.east.now a.north.now c.if-too_short.ensures))
-    c.write.ensures.east
-
-pub returns-then-n-gt-MOST-clause-north : goal.returns-then-n-gt-MOST-clause-north
-returns-then-n-gt-MOST-clause-north c =
-    let a = c.args in
-    let cs = a.corners.now in
-    rw (refused_2 a.sense cs a.east.now a.north.now (omega (arith, corners-count cs, c.if-n-gt-MOST.true))) refl
-
-pub returns-then-place-n-clause-north : goal.returns-then-place-n-clause-north
-returns-then-place-n-clause-north c =
-    let a = c.args in
-    let cs = a.corners.now in
-    rw
-    (refused_3 a.sense cs a.east.now a.north.now (few cs c.if-n-gt-MOST.false) c.first_beyond-place.result c.first_beyond-place.ensures
-    (omega (arith, corners-count cs, c.if-place-n.true)))
-    refl
-
-pub returns-then-not-is_envelope-clause-north : goal.returns-then-not-is_envelope-clause-north
-returns-then-not-is_envelope-clause-north c =
-    let a = c.args in
-    let cs = a.corners.now in
-    rw (refused_9 a.sense cs a.east.now a.north.now (few cs c.if-n-gt-MOST.false) (near cs c.first_beyond-place.ensures c.if-place-n.false) (cc)) refl
-
-pub returns-then-too_short-clause-north : goal.returns-then-too_short-clause-north
-returns-then-too_short-clause-north c =
-    let a = c.args in
-    let cs = a.corners.now in
-    rw (short a.sense cs a.east.now a.north.now (few cs c.if-n-gt-MOST.false) (near cs c.first_beyond-place.ensures c.if-place-n.false) (cc) (decided cs a.east.now a.north.now c.if-too_short.ensures)) refl
-
-pub returns-clause-north : goal.returns-clause-north
-unfolding in_sense
-returns-clause-north c =
-    let a = c.args in
-    let cs = a.corners.now in
-    rw (answered a.sense cs a.east.now a.north.now (few cs c.if-n-gt-MOST.false) (near cs c.first_beyond-place.ensures c.if-place-n.false) (cc) (decided cs a.east.now a.north.now c.if-too_short.ensures))
-    c.write.ensures.north
-
-pub first_beyond-place-requires : goal.first_beyond-place-requires
-first_beyond-place-requires c = sym (corners-count c.args.corners.now)
+    let place = c.first_beyond-place in
+    corners_refused (ap (λ r. refused (number_of r.reason) r.place) c.at.ensures)
+    (refused_3 (sense_byte a.sense) a.bytes.now a.east.now a.north.now (omega arith) place.result place.ensures (omega arith))
 
 pub is_envelope-requires : goal.is_envelope-requires
 is_envelope-requires c =
-    let cs = c.args.corners.now in
-    passed cs (near cs c.first_beyond-place.ensures c.if-place-n.false)
+    let cs = c.args.bytes.now in
+    none_beyond (corners_in cs) (no_place (corners_in cs) c.first_beyond-place.result c.first_beyond-place.ensures (omega arith))
 
-pub first_corner-first-requires : goal.first_corner-first-requires
-first_corner-first-requires c = (sym (corners-count c.args.corners.now), cc)
-
-pub write-requires : goal.write-requires
-write-requires c =
+pub returns-then-not-is_envelope : goal.returns-then-not-is_envelope
+returns-then-not-is_envelope c =
     let a = c.args in
-    let cs = a.corners.now in
-    let fits = fits_both (length a.east.now) (length a.north.now) _ (sym c.if-too_short.ensures) in
-    (passed cs (near cs c.first_beyond-place.ensures c.if-place-n.false), c.first_corner-first.ensures, record { east_room = fits.0; north_room = fits.1 })
+    let cs = a.bytes.now in
+    let near = no_place (corners_in cs) c.first_beyond-place.result c.first_beyond-place.ensures (omega arith) in
+    corners_refused (ap (λ r. refused (number_of r.reason) r.place) c.into-then-not-is_envelope.ensures)
+    (refused_9 (sense_byte a.sense) cs a.east.now a.north.now (omega arith) near (cc))
+
+pub returns-then-too_short : goal.returns-then-too_short
+returns-then-too_short c =
+    let a = c.args in
+    let cs = a.bytes.now in
+    let near = no_place (corners_in cs) c.first_beyond-place.result c.first_beyond-place.ensures (omega arith) in
+    corners_refused (ap (λ r. refused (number_of r.reason) r.place) c.into-then-too_short.ensures)
+    (short (sense_byte a.sense) cs a.east.now a.north.now (omega arith) near (cc) (decided a.east.now a.north.now c.count-n.ensures c.too_short.ensures (cc)))
+
+pub write-requires-clause-near : goal.write-requires-clause-near
+write-requires-clause-near c =
+    let cs = c.args.bytes.now in
+    none_beyond (corners_in cs) (no_place (corners_in cs) c.first_beyond-place.result c.first_beyond-place.ensures (omega arith))
+
+pub returns : goal.returns
+unfolding in_sense
+returns c =
+    let a = c.args in
+    let cs = a.bytes.now in
+    let near = no_place (corners_in cs) c.first_beyond-place.result c.first_beyond-place.ensures (omega arith) in
+    let about : c.eq-about.result ≡ eqb (sense_byte a.sense) 1 = search rules in
+    let wrote = rw about at c.write.ensures in
+    corners_done (ap done (c.count-n.ensures ∙ sym (sense-length (sense_byte a.sense) (corners_in cs) (cc))))
+    (answered (sense_byte a.sense) cs a.east.now a.north.now (omega arith) near (cc) (decided a.east.now a.north.now c.count-n.ensures c.too_short.ensures (cc)))
+    wrote.east wrote.north

@@ -1,7 +1,6 @@
-use Rattle.std.proofs.Common.{refl}
-use Rattle.rules.specs.Record.{word}
+use Rattle.std.proofs.Common.{◌∙◌}
+use Rattle.reader.proofs.FourBytes.{bytes_read}
 use Rattle.reader.proofs.word.Goals as goal
 
 pub returns : goal.returns
-unfolding word
-returns c = refl
+returns c = c.from_be_bytes.ensures ∙ bytes_read c.args.bytes.now c.args.at

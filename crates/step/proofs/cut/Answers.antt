@@ -1,3 +1,5 @@
+-- `step::cut` meets its contract: the key picked behind the list is the key of the rank's east.
+-- Assumes nothing.
 use Rattle.std.proofs.Common.{◌-◌, ◌∙◌, length, arith, w32, w64}
 use borrow.Rule.Slice.PartMut.{take_put}
 use Rattle.whole.specs.Solver.{var}
@@ -13,8 +15,8 @@ returns c =
       is =
           word-is w64 (cast_read w32 c.number.result c.number.type_inv ∷ᶜ []ʷ) (var 0) tt
           ∙ c.number.ensures
-          ∙ cut-is c.requires c.easts.ensures c.pick_key-said.ensures;
+          ∙ cut-is c.requires c.easts.ensures (rw c.split_at_mut-keys.ensures.front at c.pick_key-key.ensures);
       same-list =
-          take_put a.t (length now - a.t) now c.pick_key-said.new.w (omega (arith, c.requires, c.easts.auto.w))
+          take_put a.t (length now - a.t) now _ (omega (arith, c.requires, c.easts.auto.w))
           ∙ list-stays c.requires c.easts.ensures;
     }

@@ -6,4 +6,4 @@ beyond-left-requires c = left_asks c.requires c.beyond-right.auto.w c.beyond-rig
 
 pub returns : goal.returns
 returns c =
-    halved c.requires c.beyond-right.auto.w c.beyond-right.ensures c.beyond-left.auto.w c.beyond-left.ensures c.copy.ensures
+    halved c.requires c.beyond-right.auto.w c.beyond-right.ensures c.beyond-left.auto.w c.beyond-left.ensures c.copy_within.ensures.after

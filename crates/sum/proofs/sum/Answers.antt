@@ -1,96 +1,89 @@
--- Each return is the rules' tests in the order in which the code makes them.
-use Rattle.std.specs.Prelude.{refl, List, ℤ}
-use Rattle.std.proofs.Common.{sym, ◌∙◌}
+-- The tests of both rings, then the sum's own.
+use Rattle.std.specs.Prelude.{◌≡◌, refl, List, [], ℕ, ◌<◌, ℤ, length, Err}
+use Rattle.std.proofs.Common.{sym, ap, ◌∙◌, rules}
+use Rattle.rules.specs.Lists.{zeros}
 use Rattle.rules.specs.Streams.{Stream, streams}
 use Rattle.rules.specs.Use.{sum}
-use Rattle.rules.specs.Entries.{sum_answer}
+use Rattle.rules.specs.Refusals.{Answer, refused, done, unless}
+use Rattle.rules.specs.Entries.{two_ring_tests, sum_answer}
+use Rattle.samples.specs.Answers.{number_of}
+use Rattle.samples.specs.InOrder.{then_answer, answer_by, quiet-number}
+use Rattle.envelope.specs.TwoRings.{Rings, two_passed}
 use Rattle.closing.specs.RingPromise.{outcome_as, outcome_refused}
-use Rattle.samples.specs.Tests.{quiet-number}
-use Rattle.envelope.specs.Tests.{alone_tests, sound}
-use Rattle.envelope.specs.TwoRings.{first_refused, second_refused, many_refused, scratch_refused, all_pass}
-use Rattle.sum.specs.Entry.{own_tests, too_far_refused, near_passes}
+use Rattle.sum.specs.Entry.{own_tests, too_far_refused, near_passes, nothing-beyond, nothing_written, empty_first, empty_second}
 use Rattle.sum.proofs.sum.Goals as goal
+use Rattle.sum.proofs.sum.Goals.{then-is_empty-via-then-is_empty, then-is_empty-via-else-is_empty+then-is_empty-2}
 
--- the sum
-abbrev whole : List ℤ → List ℤ → List ℤ → List ℤ → List Stream
-whole east north east2 north2 = sum (streams east north) (streams east2 north2)
+module _ (es ns fs ms oe on : List ℤ) (scratch : List ℕ) where
+  -- the sum
+  abbrev whole : List Stream
+  whole = sum (streams es ns) (streams fs ms)
 
-pub returns-in-Refused : goal.returns-in-Refused
-unfolding sum_answer
-returns-in-Refused c =
+  -- what the entry answers, by what the tests of both rings said
+  after : {t : Answer (Unit {0})} → t ≡ unless (two_ring_tests es ns fs ms scratch) tt
+      → sum_answer es ns fs ms oe on scratch ≡ then_answer t (unless (own_tests oe on whole) whole)
+  unfolding sum_answer
+  after e = answer_by (two_ring_tests es ns fs ms scratch) (own_tests oe on whole) whole tt (sym e)
+
+  -- two rings that passed them
+  rings : done (tt {0}) ≡ unless (two_ring_tests es ns fs ms scratch) tt → Rings es ns fs ms
+  rings e = (two_passed es ns fs ms scratch tt (sym e)).0
+
+pub returns-in_err-two_rings : goal.returns-in_err-two_rings
+returns-in_err-two_rings c =
     let a = c.args in
-    let r = whole a.east.now a.north.now a.east2.now a.north2.now in
-    let v = sym c.in-Refused.ensures in
-    outcome_refused c.in-Refused.number c.in-Refused.place
-    (first_refused a.east.now a.north.now a.east2.now a.north2.now a.scratch.now (own_tests a.out_east.now a.out_north.now r) r v)
-    (quiet-number (alone_tests a.east.now a.north.now) tt v)
+    let said = c.in_err-two_rings.ensures in
+    let e : c.from_residual.result ≡ Err c.in_err-two_rings.field-0.0 = search rules in
+    rw e (outcome_refused (after a.east.now a.north.now a.east2.now a.north2.now a.out_east.now a.out_north.now a.scratch.now said) refl
+    (quiet-number tt (two_ring_tests a.east.now a.north.now a.east2.now a.north2.now a.scratch.now) tt (sym said)))
 
-pub returns-in-Refused-of_ring : goal.returns-in-Refused-of_ring
-unfolding sum_answer
-returns-in-Refused-of_ring c =
+pub returns-then-is_empty : goal.returns-then-is_empty
+returns-then-is_empty c =
     let a = c.args in
-    let r = whole a.east.now a.north.now a.east2.now a.north2.now in
-    let v = sym c.in-Refused-of_ring.ensures in
-    outcome_refused c.in-Refused-of_ring.number c.in-Refused-of_ring.place
-    (second_refused a.east.now a.north.now a.east2.now a.north2.now a.scratch.now (own_tests a.out_east.now a.out_north.now r) r (sym c.in-Passed.ensures) v)
-    (quiet-number (alone_tests a.east2.now a.north2.now) tt v)
+    let s = whole a.east.now a.north.now a.east2.now a.north2.now a.out_east.now a.out_north.now a.scratch.now in
+    let empty : s ≡ [] = elim c.then-is_empty.branch [
+      | then-is_empty-via-then-is_empty w ↦ empty_first a.east.now a.north.now (streams a.east2.now a.north2.now) (search rules)
+      | then-is_empty-via-else-is_empty+then-is_empty-2 w ↦ empty_second (streams a.east.now a.north.now) a.east2.now a.north2.now (search rules)
+    ] in
+    let cleared : c.fill.new.self ≡ zeros a.scratch.now = search rules in
+    outcome_as
+    (after a.east.now a.north.now a.east2.now a.north2.now a.out_east.now a.out_north.now a.scratch.now c.in_ok-two_rings.ensures
+    ∙ near_passes a.out_east.now a.out_north.now s (nothing-beyond empty))
+    (nothing_written a.out_east.now a.out_north.now a.scratch.now empty cleared)
 
-pub returns-then-both-gt-MOST : goal.returns-then-both-gt-MOST
-unfolding sum_answer
-returns-then-both-gt-MOST c =
+pub invariant_of-first : goal.invariant_of-first
+invariant_of-first c =
     let a = c.args in
-    let r = whole a.east.now a.north.now a.east2.now a.north2.now in
-    outcome_refused 2 0
-    (many_refused a.east.now a.north.now a.east2.now a.north2.now a.scratch.now (own_tests a.out_east.now a.out_north.now r) r (sym c.in-Passed.ensures)
-    (sym c.in-Passed-of_ring.ensures) c.if-both-gt-MOST.true)
-    refl
+    let r = rings a.east.now a.north.now a.east2.now a.north2.now a.out_east.now a.out_north.now a.scratch.now c.in_ok-two_rings.ensures in
+    let some : 0 < length a.east.now = search rules in
+    record { one = record { sampled = r.first.sampled; some = some } }
 
-pub returns-then-scratch-both : goal.returns-then-scratch-both
-unfolding sum_answer
-returns-then-scratch-both c =
+pub invariant_of-second : goal.invariant_of-second
+invariant_of-second c =
     let a = c.args in
-    let r = whole a.east.now a.north.now a.east2.now a.north2.now in
-    outcome_refused 4 0
-    (scratch_refused a.east.now a.north.now a.east2.now a.north2.now a.scratch.now (own_tests a.out_east.now a.out_north.now r) r (sym c.in-Passed.ensures)
-    (sym c.in-Passed-of_ring.ensures) c.if-both-gt-MOST.false c.if-scratch-both.true)
-    refl
+    let r = rings a.east.now a.north.now a.east2.now a.north2.now a.out_east.now a.out_north.now a.scratch.now c.in_ok-two_rings.ensures in
+    let some : 0 < length a.east2.now = search rules in
+    record { one = record { sampled = r.second.sampled; some = some } }
 
-pub reaches_beyond-requires : goal.reaches_beyond-requires
-reaches_beyond-requires c =
+pub returns-then-too_far : goal.returns-then-too_far
+returns-then-too_far c =
     let a = c.args in
-    record {
-      first = sound a.east.now a.north.now (sym c.in-Passed.ensures);
-      second = sound a.east2.now a.north2.now (sym c.in-Passed-of_ring.ensures);
-      few = c.if-both-gt-MOST.false;
-    }
+    let s = whole a.east.now a.north.now a.east2.now a.north2.now a.out_east.now a.out_north.now a.scratch.now in
+    outcome_refused
+    (after a.east.now a.north.now a.east2.now a.north2.now a.out_east.now a.out_north.now a.scratch.now c.in_ok-two_rings.ensures
+    ∙ too_far_refused a.out_east.now a.out_north.now s c.if-too_far.ensures)
+    (ap (λ r. refused (number_of r.reason) r.place) c.into.ensures) refl
 
-pub returns-then-reaches_beyond : goal.returns-then-reaches_beyond
-unfolding sum_answer
-returns-then-reaches_beyond c =
+pub write_sum-requires : goal.write_sum-requires
+write_sum-requires c =
     let a = c.args in
-    let r = whole a.east.now a.north.now a.east2.now a.north2.now in
-    outcome_refused 19 0
-    (all_pass a.east.now a.north.now a.east2.now a.north2.now a.scratch.now (own_tests a.out_east.now a.out_north.now r) r (sym c.in-Passed.ensures)
-    (sym c.in-Passed-of_ring.ensures) c.if-both-gt-MOST.false c.if-scratch-both.false
-    ∙ too_far_refused a.out_east.now a.out_north.now r (sym c.if-reaches_beyond.true ∙ c.reaches_beyond.ensures))
-    refl
-
-pub write-requires : goal.write-requires
-write-requires c =
-    let a = c.args in
-    record {
-      first = sound a.east.now a.north.now (sym c.in-Passed.ensures);
-      second = sound a.east2.now a.north2.now (sym c.in-Passed-of_ring.ensures);
-      few = c.if-both-gt-MOST.false;
-    }
+    rings a.east.now a.north.now a.east2.now a.north2.now a.out_east.now a.out_north.now a.scratch.now c.in_ok-two_rings.ensures
 
 pub returns : goal.returns
-unfolding sum_answer
 returns c =
     let a = c.args in
-    let r = whole a.east.now a.north.now a.east2.now a.north2.now in
+    let s = whole a.east.now a.north.now a.east2.now a.north2.now a.out_east.now a.out_north.now a.scratch.now in
     outcome_as
-    (all_pass a.east.now a.north.now a.east2.now a.north2.now a.scratch.now (own_tests a.out_east.now a.out_north.now r) r (sym c.in-Passed.ensures)
-    (sym c.in-Passed-of_ring.ensures) c.if-both-gt-MOST.false c.if-scratch-both.false
-    ∙ near_passes a.out_east.now a.out_north.now r (sym c.if-reaches_beyond.false ∙ c.reaches_beyond.ensures))
-    c.write.ensures
+    (after a.east.now a.north.now a.east2.now a.north2.now a.out_east.now a.out_north.now a.scratch.now c.in_ok-two_rings.ensures
+    ∙ near_passes a.out_east.now a.out_north.now s c.if-too_far.ensures)
+    c.write_sum.ensures

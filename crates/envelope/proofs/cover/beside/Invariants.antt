@@ -1,4 +1,4 @@
-use Rattle.std.proofs.Common.{◌-◌, ◌≡◌, length, ◌≤◌}
+use Rattle.std.proofs.Common.{◌≡◌}
 use Rattle.rules.specs.Streams.{streams}
 use Rattle.samples.specs.HeldStream.{stream_of}
 use Rattle.envelope.specs.RoundTheRing.{beside_from}
@@ -6,11 +6,5 @@ use Rattle.envelope.proofs.cover.beside.Given as goal
 
 -- the test is what is left of it from place i on
 abbrev pub invariant-loop-i : goal.invariant-loop-i
-invariant-loop-i l = record {
-  started : 1 ≤ l.i;
-  inside : l.i ≤ length l.east;
-  left : beside_from (streams l.east l.north) (stream_of l.s) 1 ≡ beside_from (streams l.east l.north) (stream_of l.s) l.i;
-}
-
-abbrev pub decreases-loop-i : goal.decreases-loop-i
-decreases-loop-i l = l.n - l.i
+invariant-loop-i l =
+    beside_from (streams l.east l.north) (stream_of l.s) 1 ≡ beside_from (streams l.east l.north) (stream_of l.s) l.i

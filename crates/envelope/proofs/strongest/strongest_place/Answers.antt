@@ -1,4 +1,4 @@
-use Rattle.std.proofs.Common.{◌≡◌, ◌+◌, sym, ap, ap₂, ◌∙◌, subst, arith, to_z-of_z, to_z, of_z}
+use Rattle.std.proofs.Common.{◌≡◌, ◌+◌, sym, ap, ap₂, ◌∙◌, subst, to_z-of_z, to_z, of_z}
 use Rattle.std.specs.Int.{w64}
 use Rattle.std.specs.Int.Signed.{lt_z}
 use Rattle.rules.specs.Streams.{streams, sample}
@@ -28,11 +28,7 @@ loop-i-preserved c =
     c.set_on-in-loop-i.ensures ∙
     ap (set_on a.course.east a.course.north) c.at-in-loop-i.ensures)) in
     let next = First (stronger a.course.east a.course.north) xs (l.i + 1) in
-    record {
-      inside = omega arith;
-      first =
-          elim c.if-set_on.branch [
-            | then-set_on w ↦ subst next (sym w.best-is) (first_taken orders xs l.invariant.first (found ∙ w.if-set_on.true))
-            | else-set_on w ↦ subst next (sym w.best-is) (first-left orders xs l.invariant.first (found ∙ w.if-set_on.false))
-          ];
-    }
+    elim c.if-set_on.branch [
+      | then-set_on w ↦ subst next (sym w.best-is) (first_taken orders xs l.invariant (found ∙ w.if-set_on.true))
+      | else-set_on w ↦ subst next (sym w.best-is) (first-left orders xs l.invariant (found ∙ w.if-set_on.false))
+    ]

@@ -1,50 +1,42 @@
-use Rattle.std.proofs.Common.{◌≡◌, ℤ, sym, ap, ap₂, ◌∙◌, arith, Bool, true, false, ◌&&◌, List, ◌<◌, length}
+use Rattle.std.proofs.Common.{◌≡◌, sym, ap, ap₂, ◌∙◌, arith, Bool, true, false, ◌&&◌, List, ◌<◌, length}
 use Rattle.std.specs.Int.Signed.{lt_z}
-use Rattle.rules.specs.Streams.{Stream, streams, sample}
+use Rattle.rules.specs.Streams.{Stream, sample}
 use Rattle.rules.specs.Chain.{leftmost}
 use Rattle.rules.specs.Use.{envelope}
 use Rattle.laws_neighbours.specs.Recognised.{recognised}
-use Rattle.samples.specs.Positions.{Sampled}
-use Rattle.samples.specs.Samples.{streams-length, read_near}
 use Rattle.samples.specs.StreamWords.{read, held}
+use Rattle.envelope.specs.CornersNear.{CornersNear, near_read}
 use Rattle.envelope.specs.RoundTheRing.{round_from, few_pass, two_pass, more_pass}
 use Rattle.envelope.proofs.test.is_envelope.Goals as goal
 
 -- a ring of more than two corners, by the easts of the first two as they were read
-module _ {es ns : List ℤ} (p : Sampled es ns) where
-  easts : {s t : Stream} → s ≡ sample (streams es ns) 0 → t ≡ sample (streams es ns) 1 →
-      lt_z (read s.east) (read t.east) ≡ lt_z (sample (streams es ns) 0).east (sample (streams es ns) 1).east
-  easts {s} {t} e f =
+module _ {xs : List Stream} (p : CornersNear xs) {s t : Stream} (e : s ≡ sample xs 0) (f : t ≡ sample xs 1) where
+  easts : lt_z (read s.east) (read t.east) ≡ lt_z (sample xs 0).east (sample xs 1).east
+  easts =
       ap₂ lt_z
-      ((held (read_near p 0 e).east_near).same ∙ ap (λ (s : Stream). s.east) e)
-      ((held (read_near p 1 f).east_near).same ∙ ap (λ (s : Stream). s.east) f)
+      ((held (near_read p 0 e).east_near).same ∙ ap (λ (s : Stream). s.east) e)
+      ((held (near_read p 1 f).east_near).same ∙ ap (λ (s : Stream). s.east) f)
 
   -- the answer is what the code found of the sides
-  sides : {b : Bool} → b ≡ lt_z (sample (streams es ns) 0).east (sample (streams es ns) 1).east → 2 < length es →
-      (b && round_from (streams es ns) 2) ≡ envelope (streams es ns)
-  sides e h =
-      let n = streams-length es ns p.even in
-      ap (λ (b : Bool). b && round_from (streams es ns) 2) e ∙ sym (more_pass (streams es ns) (omega (arith, n))) ∙ recognised (streams es ns)
+  sides : {b : Bool} → lt_z (read s.east) (read t.east) ≡ b → 2 < length xs → (b && round_from xs 2) ≡ envelope xs
+  sides h many = ap (λ (b : Bool). b && round_from xs 2) (sym h ∙ easts) ∙ sym (more_pass xs many) ∙ recognised xs
 
 pub returns-then-n-lt2 : goal.returns-then-n-lt2
-returns-then-n-lt2 c =
-    let xs = streams c.args.east.now c.args.north.now in
-    let count = streams-length c.args.east.now c.args.north.now c.requires.even in
-    sym (few_pass xs (omega (arith, count))) ∙ recognised xs
+returns-then-n-lt2 g c =
+    let xs = g.C.Corners.corners c.args.ring.now in
+    sym (few_pass xs (omega arith)) ∙ recognised xs
 
 pub returns-then-n-eq2 : goal.returns-then-n-eq2
-returns-then-n-eq2 c =
-    let xs = streams c.args.east.now c.args.north.now in
-    let count = streams-length c.args.east.now c.args.north.now c.requires.even in
+returns-then-n-eq2 g c =
+    let xs = g.C.Corners.corners c.args.ring.now in
     c.leftmost.ensures ∙
-    (λ k. leftmost (c.at-first.ensures k) (c.at-second.ensures k)) ∙
-    sym (two_pass xs (omega (arith, count))) ∙
+    (λ k. leftmost (c.corner-first.ensures k) (c.corner-second.ensures k)) ∙
+    sym (two_pass xs (omega arith)) ∙
     recognised xs
 
 pub returns-then-first-second : goal.returns-then-first-second
-returns-then-first-second c =
-    c.goes_round.ensures ∙
-    sides c.requires {b = true} (sym c.if-first-second.true ∙ easts c.requires c.at-first.ensures c.at-second.ensures) (omega arith)
+returns-then-first-second g c =
+    c.goes_round.ensures ∙ sides c.requires c.corner-first.ensures c.corner-second.ensures {b = true} c.if-first-second.true (omega arith)
 
 pub returns : goal.returns
-returns c = sides c.requires {b = false} (sym c.if-first-second.false ∙ easts c.requires c.at-first.ensures c.at-second.ensures) (omega arith)
+returns g c = sides c.requires c.corner-first.ensures c.corner-second.ensures {b = false} c.if-first-second.false (omega arith)

@@ -1,27 +1,26 @@
-use Rattle.std.proofs.Common.{◌≡◌, ◌+◌, sym, ap₂, ◌∙◌, subst, arith, length}
-use Rattle.rules.specs.Streams.{streams}
+use Rattle.std.proofs.Common.{◌≡◌, ◌+◌, Bool, ℕ, List, sym, ◌∙◌, subst, arith}
+use Rattle.rules.specs.Streams.{Stream, sample}
 use Rattle.rules.specs.Chain.{leftmost}
-use Rattle.samples.specs.Samples.{streams-length}
 use Rattle.envelope.specs.FirstBest.{First, nearer_entry, entry_orders, first_one, first_taken, first-left}
 use Rattle.envelope.specs.Turns.{entered_at}
 use Rattle.envelope.proofs.turn.entry.Goals as goal
 use Rattle.envelope.proofs.turn.entry.Goals.{then-leftmost, else-leftmost}
 
+-- what the code compares are the corners at best and at i
+compared : (xs : List Stream) (best i : ℕ) {b : Bool} {p q : Stream} → p ≡ sample xs best → q ≡ sample xs i → b ≡ leftmost p q →
+    nearer_entry (sample xs i) (sample xs best) ≡ b
+compared xs best i p q e = sym (e ∙ (λ k. leftmost (p k) (q k)))
+
 pub loop-i-init : goal.loop-i-init
-loop-i-init c = record {
-  started = omega arith;
-  inside = omega arith;
-  first = first_one entry_orders (streams c.args.east.now c.args.north.now);
-}
+loop-i-init g c = record { inside = omega arith; first = first_one entry_orders (g.C.Corners.corners c.args.ring.now) }
 
 pub loop-i-preserved : goal.loop-i-preserved
-loop-i-preserved c =
-    let xs = streams c.args.east.now c.args.north.now in
+loop-i-preserved g c =
+    let xs = g.C.Corners.corners c.args.ring.now in
     let l = c.loop-i in
-    let found = sym (c.leftmost.ensures ∙ ap₂ leftmost c.at.ensures c.at-in-loop-i.ensures) in
+    let found = compared xs l.best l.i c.corner.ensures c.corner-in-loop-i.ensures c.leftmost.ensures in
     let next = First nearer_entry xs (l.i + 1) in
     record {
-      started = omega arith;
       inside = omega arith;
       first =
           elim c.if-leftmost.branch [
@@ -31,7 +30,4 @@ loop-i-preserved c =
     }
 
 pub returns : goal.returns
-returns c =
-    let xs = streams c.args.east.now c.args.north.now in
-    let count : length xs ≡ length c.args.east.now = streams-length c.args.east.now c.args.north.now c.requires.0 in
-    entered_at xs c.loop-i.invariant.first (omega arith) (omega arith) c.requires.1
+returns g c = entered_at (g.C.Corners.corners c.args.ring.now) c.loop-i.invariant.first (omega arith) (omega arith) c.requires

@@ -1,19 +1,18 @@
-use Rattle.std.proofs.Common.{◌≡◌, refl, sym, ap, ◌∙◌, [], ◌∷◌, ◌||◌, ◌≤◌, ℕ, ℤ, List, Bool, true, false, ltb, length, arith}
+use Rattle.std.proofs.Common.{◌≡◌, refl, sym, ap, ◌∙◌, [], ◌∷◌, ◌||◌, ◌≤◌, ℕ, ℤ, List, Bool, true, false, ltb, length, arith, rules, Err}
 use Rattle.rules.specs.Streams.{Stream, streams}
 use Rattle.rules.specs.Use.{turn_about}
-use Rattle.rules.specs.Refusals.{done, refused, Test, unless}
+use Rattle.rules.specs.Refusals.{Answer, done, refused, Test, unless}
 use Rattle.rules.specs.Entries.{ring_short, turn_answer}
+use Rattle.samples.specs.Answers.{number_of}
 use Rattle.samples.specs.Samples.{streams-length}
-use Rattle.samples.specs.Tests.{tested_of, then_answer, answer_by, refuses, passes, fits_both}
-use Rattle.samples.specs.declared.tests.Tested.{Tested}
-use Rattle.samples.specs.declared.tests.Tested.TheVariants.{Passed}
+use Rattle.samples.specs.InOrder.{then_answer, answer_by, refuses, passes, fits_both}
 use Rattle.laws_rings.specs.Cycle.{turned-length}
 use Rattle.envelope.specs.Tests.{alone_tests, Sound, sound}
 use Rattle.envelope.specs.Turns.{parts_near, turn_refused, turn_done}
 use Rattle.envelope.proofs.turn.turn_about.Goals as goal
 
 -- what the entry answers, by what the tests of the ring said
-module _ (es ns oe on : List ℤ) {r : Tested} (h : r ≡ tested_of (alone_tests es ns)) where
+module _ (es ns oe on : List ℤ) where
   -- the ring turned about, and the test after those of the ring
   abbrev turned_ring : List Stream
   turned_ring = turn_about (streams es ns)
@@ -21,13 +20,13 @@ module _ (es ns oe on : List ℤ) {r : Tested} (h : r ≡ tested_of (alone_tests
   abbrev short : Test
   short = ring_short oe on turned_ring
 
-  after : {t : Tested} → r ≡ t → turn_answer es ns oe on ≡ then_answer t (unless (short ∷ []) turned_ring)
+  after : {t : Answer (Unit {0})} → t ≡ unless (alone_tests es ns) tt → turn_answer es ns oe on ≡ then_answer t (unless (short ∷ []) turned_ring)
   unfolding turn_answer
-  after e = answer_by (alone_tests es ns) (short ∷ []) turned_ring (sym h ∙ e)
+  after e = answer_by (alone_tests es ns) (short ∷ []) turned_ring tt (sym e)
 
-  module _ (passed : r ≡ Passed) where
+  module _ (passed : done (tt {0}) ≡ unless (alone_tests es ns) tt) where
     good : Sound es ns
-    good = sound es ns (sym h ∙ passed)
+    good = sound es ns tt (sym passed)
 
     -- how many corners the ring turned about has
     count : length turned_ring ≡ length es
@@ -47,39 +46,42 @@ module _ (es ns oe on : List ℤ) {r : Tested} (h : r ≡ tested_of (alone_tests
       room : t ≡ false → (length es ≤ length oe) × (length es ≤ length on)
       room e = fits_both (length oe) (length on) (length es) (sym tested ∙ e)
 
-pub returns-in-Refused : goal.returns-in-Refused
-returns-in-Refused c =
+pub returns-in_err-of_ring : goal.returns-in_err-of_ring
+returns-in_err-of_ring c =
     let a = c.args in
-    turn_refused a.east.now a.north.now a.out_east.now a.out_north.now refl
-    (after a.east.now a.north.now a.out_east.now a.out_north.now c.of_ring.ensures c.in-Refused.is)
+    let e : c.from_residual.result ≡ Err c.in_err-of_ring.field-0.0 = search rules in
+    rw e (turn_refused a.east.now a.north.now a.out_east.now a.out_north.now refl
+    (after a.east.now a.north.now a.out_east.now a.out_north.now c.in_err-of_ring.ensures))
 
 pub returns-then-too_short : goal.returns-then-too_short
 returns-then-too_short c =
     let a = c.args in
-    turn_refused a.east.now a.north.now a.out_east.now a.out_north.now refl
-    (no_room a.east.now a.north.now a.out_east.now a.out_north.now c.of_ring.ensures c.in-Passed.is c.too_short.ensures c.if-too_short.true)
+    turn_refused a.east.now a.north.now a.out_east.now a.out_north.now
+    (ap (λ r. refused (number_of r.reason) r.place) c.into.ensures)
+    (no_room a.east.now a.north.now a.out_east.now a.out_north.now c.in_ok-of_ring.ensures c.too_short.ensures (cc))
 
 pub negate_from-requires : goal.negate_from-requires
 negate_from-requires c =
     let a = c.args in
-    let ring = good a.east.now a.north.now a.out_east.now a.out_north.now c.of_ring.ensures c.in-Passed.is in
+    let ring = good a.east.now a.north.now a.out_east.now a.out_north.now c.in_ok-of_ring.ensures in
     let n = streams-length a.east.now a.north.now ring.sampled.even in
-    let fits = room a.east.now a.north.now a.out_east.now a.out_north.now c.of_ring.ensures c.in-Passed.is c.too_short.ensures c.if-too_short.false in
+    let fits = room a.east.now a.north.now a.out_east.now a.out_north.now c.in_ok-of_ring.ensures c.too_short.ensures (cc) in
     ((parts_near ring.sampled).0, omega (arith, n, c.entry-start.ensures.here), fits.0)
 
 pub negate_from-requires-2 : goal.negate_from-requires-2
 negate_from-requires-2 c =
     let a = c.args in
-    let ring = good a.east.now a.north.now a.out_east.now a.out_north.now c.of_ring.ensures c.in-Passed.is in
+    let ring = good a.east.now a.north.now a.out_east.now a.out_north.now c.in_ok-of_ring.ensures in
     let even = ring.sampled.even in
     let n = streams-length a.east.now a.north.now even in
-    let fits = room a.east.now a.north.now a.out_east.now a.out_north.now c.of_ring.ensures c.in-Passed.is c.too_short.ensures c.if-too_short.false in
+    let fits = room a.east.now a.north.now a.out_east.now a.out_north.now c.in_ok-of_ring.ensures c.too_short.ensures (cc) in
     ((parts_near ring.sampled).1, omega (arith, n, even, c.entry-start.ensures.here), omega (arith, even, fits.1))
 
 pub returns : goal.returns
 returns c =
     let a = c.args in
-    let ring = good a.east.now a.north.now a.out_east.now a.out_north.now c.of_ring.ensures c.in-Passed.is in
+    let passed = c.in_ok-of_ring.ensures in
+    let ring = good a.east.now a.north.now a.out_east.now a.out_north.now passed in
     turn_done a.east.now a.north.now a.out_east.now a.out_north.now ring.sampled ring.is-envelope c.entry-start.ensures refl c.negate_from.ensures
     c.negate_from-2.ensures
-    (all_pass a.east.now a.north.now a.out_east.now a.out_north.now c.of_ring.ensures c.in-Passed.is c.too_short.ensures c.if-too_short.false)
+    (all_pass a.east.now a.north.now a.out_east.now a.out_north.now passed c.too_short.ensures (cc))

@@ -1,10 +1,8 @@
--- The middles of the groups so far lie behind the keys.
-use Rattle.std.proofs.Common.{◌-◌, ◌≤◌}
-use Rattle.picker.proofs.Fives.{Grouping}
+-- The middles of the groups so far are written.
+use Rattle.std.proofs.Common.{◌≡◌, leb, take}
+use mathlib.Core.List.{map}
+use Rattle.laws_ranks.specs.Middles.{middle, fives}
 use Rattle.picker.proofs.five.middles.Given as goal
 
 abbrev pub invariant-loop-i : goal.invariant-loop-i
-invariant-loop-i l = (l.i ≤ l.g) × Grouping l.initial.w l.n l.g l.w l.i
-
-abbrev pub decreases-loop-i : goal.decreases-loop-i
-decreases-loop-i l = l.g - l.i
+invariant-loop-i l = take l.i l.out ≡ map (middle leb 0) (fives 0 l.g l.keys l.i)

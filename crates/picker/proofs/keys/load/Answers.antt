@@ -9,4 +9,4 @@ use Rattle.picker.proofs.keys.load.Goals as goal
 pub loop-i-preserved : goal.loop-i-preserved
 loop-i-preserved c =
     let small : FitsSigned w32 (get_or c.args.xs.now c.loop-i.i (pos 0)) = search rules in
-    (omega arith, loading_more c.args.xs.now c.args.w.now c.loop-i-test.true c.requires small.sfits (c.key.ensures ∙ ap key_of (to_z-of_z small)) c.loop-i.invariant.1)
+    loading_more c.args.xs.now (omega arith) (omega arith) small.sfits (c.key.ensures ∙ ap key_of (to_z-of_z small)) c.loop-i.invariant

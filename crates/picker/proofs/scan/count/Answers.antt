@@ -1,29 +1,20 @@
 -- `picker::scan::count` meets its contract: the loop keeps the counts of the keys in the runs passed.
 -- Assumes nothing.
-use Rattle.std.proofs.Common.{◌-◌, arith, drop}
-use Rattle.std.proofs.Math.ListN.{length-take}
-use Rattle.picker.proofs.Passes.{counted_none, counted_on, below_few, above_few}
+use Rattle.std.proofs.Common.{arith, rules, ◌∙◌}
+use Rattle.picker.proofs.Passes.{below_within, above-within, counting_on, counting_all}
 use Rattle.picker.proofs.scan.count.Goals as goal
 
-pub loop-i-init : goal.loop-i-init
-loop-i-init c = (omega arith, counted_none)
-
 pub overflow_add-below : goal.overflow_add-below
-overflow_add-below c =
-    let w = c.args.w.now in
-    let few = below_few c.loop-i.invariant.1 in
-    let more = below_few c.count_run-c.ensures in
-    omega (arith, length-take c.loop-i.i w, length-take (c.run_end-e.result - c.loop-i.i) (drop c.loop-i.i w), c.run_end-e.ensures)
+overflow_add-below c = omega (arith, below_within (counting_on c.loop-run.invariant.3 c.in-Some.ensures.steps.1.0 c.count_run-c.ensures))
 
 pub overflow_add-above : goal.overflow_add-above
-overflow_add-above c =
-    let w = c.args.w.now in
-    let few = above_few c.loop-i.invariant.1 in
-    let more = above_few c.count_run-c.ensures in
-    omega (arith, length-take c.loop-i.i w, length-take (c.run_end-e.result - c.loop-i.i) (drop c.loop-i.i w), c.run_end-e.ensures)
+overflow_add-above c = omega (arith, above-within (counting_on c.loop-run.invariant.3 c.in-Some.ensures.steps.1.0 c.count_run-c.ensures))
 
-pub loop-i-preserved : goal.loop-i-preserved
-loop-i-preserved c = (
-  omega (arith, c.run_end-e.ensures),
-  counted_on c.args.w.now c.loop-i.i c.run_end-e.result (omega (arith, c.run_end-e.ensures)) c.loop-i.invariant.1 c.count_run-c.ensures,
-)
+pub loop-run-preserved : goal.loop-run-preserved
+loop-run-preserved c =
+    let steps = c.in-Some.ensures.steps in
+    let l = c.loop-run.invariant in
+    (search rules, tt, steps.0 ∙ l.2, counting_on l.3 steps.1.0 c.count_run-c.ensures)
+
+pub returns : goal.returns
+returns c = counting_all c.loop-run.invariant.3 c.in-None.ensures.steps.1.0

@@ -1,24 +1,17 @@
 -- `picker::scan::count_run` meets its contract: the loop keeps the counts of the keys passed.
 -- Assumes nothing.
-use Rattle.std.proofs.Common.{◌+◌, arith}
-use Rattle.std.proofs.Math.ListN.{length-take}
-use Rattle.picker.proofs.Passes.{counted_none, counted_more, below_few, above_few}
+use Rattle.std.proofs.Common.{arith, length-drop}
+use Rattle.picker.proofs.Passes.{below_within, above-within, counting_next, counting_all}
 use Rattle.picker.proofs.scan.count_run.Goals as goal
 
-pub loop-i-init : goal.loop-i-init
-loop-i-init c = (omega arith, counted_none)
-
 pub overflow_add-below : goal.overflow_add-below
-overflow_add-below c =
-    let few = below_few (counted_more c.args.keys.now c.loop-i-test.true c.loop-i.invariant.1) in
-    let l = length-take (c.loop-i.i + 1) c.args.keys.now in
-    omega arith
+overflow_add-below c = omega (arith, below_within (counting_next c.args.keys.now (omega arith) c.loop-x.invariant))
 
 pub overflow_add-above : goal.overflow_add-above
-overflow_add-above c =
-    let few = above_few (counted_more c.args.keys.now c.loop-i-test.true c.loop-i.invariant.1) in
-    let l = length-take (c.loop-i.i + 1) c.args.keys.now in
-    omega arith
+overflow_add-above c = omega (arith, above-within (counting_next c.args.keys.now (omega arith) c.loop-x.invariant))
 
-pub loop-i-preserved : goal.loop-i-preserved
-loop-i-preserved c = (omega arith, counted_more c.args.keys.now c.loop-i-test.true c.loop-i.invariant.1)
+pub loop-x-preserved : goal.loop-x-preserved
+loop-x-preserved c = counting_next c.args.keys.now (omega arith) c.loop-x.invariant
+
+pub returns : goal.returns
+returns c = counting_all c.loop-x.invariant (omega (arith, length-drop c.loop-x.x-index c.args.keys.now))

@@ -1,10 +1,7 @@
--- The counts of the keys passed.
-use Rattle.std.proofs.Common.{◌-◌, ◌≤◌, length, take}
-use Rattle.picker.specs.Picking.{Counted}
+-- The counts of the keys passed, with those of the keys to come, are the counts of all.
+use Rattle.std.proofs.Common.{drop}
+use Rattle.picker.proofs.Passes.{Counting}
 use Rattle.picker.proofs.scan.count_run.Given as goal
 
-abbrev pub invariant-loop-i : goal.invariant-loop-i
-invariant-loop-i l = (l.i ≤ length l.keys) × Counted (take l.i l.keys) l.p l.below l.above
-
-abbrev pub decreases-loop-i : goal.decreases-loop-i
-decreases-loop-i l = length l.keys - l.i
+abbrev pub invariant-loop-x : goal.invariant-loop-x
+invariant-loop-x l = Counting l.keys (drop l.x-index l.keys) l.p l.below l.above

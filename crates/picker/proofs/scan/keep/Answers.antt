@@ -5,16 +5,16 @@ use Rattle.picker.proofs.Passes.{keeping_none, keeping_more, kept_few}
 use Rattle.picker.proofs.scan.keep.Goals as goal
 
 pub loop-i-init : goal.loop-i-init
-loop-i-init c = (omega arith, keeping_none)
+loop-i-init c = keeping_none
 
-pub offset_bounds-w-k : goal.offset_bounds-w-k
-offset_bounds-w-k c = omega (arith, kept_few c.loop-i.invariant.1)
+pub offset_bounds-keys-k : goal.offset_bounds-keys-k
+offset_bounds-keys-k c = omega (arith, kept_few c.loop-i.invariant)
 
-pub bounds-w-k : goal.bounds-w-k
-bounds-w-k c = omega (arith, kept_few c.loop-i.invariant.1)
+pub bounds-keys-k : goal.bounds-keys-k
+bounds-keys-k c = omega (arith, kept_few c.loop-i.invariant)
 
 pub overflow_add-k : goal.overflow_add-k
-overflow_add-k c = omega (arith, kept_few (keeping_more c.loop-i.invariant.1 (omega (arith, c.requires)) c.beside.ensures))
+overflow_add-k c = omega (arith, kept_few (keeping_more c.loop-i.invariant (omega arith) c.beside.ensures))
 
 pub loop-i-preserved : goal.loop-i-preserved
-loop-i-preserved c = (omega arith, keeping_more c.loop-i.invariant.1 (omega (arith, c.requires)) c.beside.ensures)
+loop-i-preserved c = keeping_more c.loop-i.invariant (omega arith) c.beside.ensures

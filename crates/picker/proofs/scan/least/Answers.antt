@@ -5,8 +5,7 @@ use Rattle.picker.proofs.Passes.{lifting_none, lifting_more}
 use Rattle.picker.proofs.scan.least.Goals as goal
 
 pub loop-i-init : goal.loop-i-init
-loop-i-init c = (omega arith, lifting_none c.args.w.now (omega arith))
+loop-i-init c = lifting_none c.args.keys.now c.requires
 
 pub loop-i-preserved : goal.loop-i-preserved
-loop-i-preserved c =
-    (omega arith, rw (c.greater.ensures, c.lesser-p.ensures) (lifting_more (omega (arith, c.requires)) c.loop-i.invariant.1))
+loop-i-preserved c = rw (c.max.ensures, c.min-p.ensures) (lifting_more (omega arith) c.loop-i.invariant)

@@ -4,10 +4,10 @@ use Rattle.picker.proofs.GoingOn.{narrowed_here, narrowed_below, narrowed_above}
 use Rattle.picker.proofs.scan.narrow.Goals as goal
 
 pub returns-then-r-below : goal.returns-then-r-below
-returns-then-r-below c = narrowed_below c.requires c.count-c.ensures c.keep-k.auto.w c.if-r-below.true c.keep-k.ensures
+returns-then-r-below c = narrowed_below c.requires c.count-c.ensures c.if-r-below.true c.keep-n.ensures
 
 pub returns-then-r-upto : goal.returns-then-r-upto
 returns-then-r-upto c = narrowed_here c.requires c.count-c.ensures c.if-r-below.false c.if-r-upto.true
 
 pub returns : goal.returns
-returns c = narrowed_above c.requires c.count-c.ensures c.keep-k-2.auto.w c.if-r-upto.false c.keep-k-2.ensures
+returns c = narrowed_above c.requires c.count-c.ensures c.if-r-upto.false c.keep-n-2.ensures

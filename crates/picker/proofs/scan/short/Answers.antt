@@ -1,17 +1,21 @@
--- `picker::scan::short` meets its contract: what has the rank s among the m keys that are left has the rank r among all.
+-- `picker::scan::short` meets its contract: what has the rank that is still sought among the keys that are left has the rank r among all.
 -- Assumes nothing.
-use Rattle.std.proofs.Common.{arith, ◌∙◌}
-use Rattle.laws_ranks.specs.Least.{sought_here, sought_next}
-use Rattle.picker.proofs.Passes.{keys_order, asked_next}
+use Rattle.std.proofs.Common.{◌+◌, ◌-◌, arith, length}
+use Rattle.std.proofs.lemmas.List.{length-take-le}
+use Rattle.picker.proofs.Passes.{taken_out, last_out}
 use Rattle.picker.proofs.scan.short.Goals as goal
 
-pub returns-then-s-eq1 : goal.returns-then-s-eq1
-returns-then-s-eq1 c = (sought_here keys_order (λ y m. tt) c.loop-s.invariant.1.1 c.least-p.ensures c.if-s-eq1.true).1
+pub loop-taken-preserved : goal.loop-taken-preserved
+loop-taken-preserved c =
+    let fits = length-take-le (length c.args.keys.now + 1 - c.loop-taken.taken) c.loop-taken.keys in
+    taken_out c.loop-taken.keys c.least.new.keys (length c.args.keys.now) c.loop-taken.taken
+    (omega arith)
+    (omega arith)
+    (omega arith)
+    c.loop-taken.auto.keys
+    c.loop-taken.invariant
+    (omega (arith, fits (omega arith)))
+    c.least.ensures
 
-pub loop-s-preserved : goal.loop-s-preserved
-loop-s-preserved c =
-    let t = c.loop-s.invariant in
-    let p = c.least-p in (
-      asked_next t.0 p.auto.w (omega (arith, t.0.least, c.if-s-eq1.false)),
-      (p.auto.w ∙ t.1.0, sought_next keys_order (λ y m. tt) t.1.1 p.ensures (omega (arith, t.0.least, c.if-s-eq1.false))),
-    )
+pub returns : goal.returns
+returns c = last_out c.loop-taken.keys (length c.args.keys.now) (omega arith) c.loop-taken.invariant c.least-2.ensures

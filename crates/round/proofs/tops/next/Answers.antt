@@ -1,6 +1,5 @@
 use Rattle.std.specs.Prelude.{◌≡◌, ℕ, ◌-◌, ◌≤◌, Bool, List, length, take, drop}
-use Rattle.std.proofs.Common.{arith, sym, ap, ◌∙◌, subst, to_z, of_z}
-use Rattle.std.specs.Int.{w64}
+use Rattle.std.proofs.Common.{arith, sym, ap, ◌∙◌, subst}
 use mathlib.Core.List.Memᴰ
 use mathlib.Core.List.{Memᴰ}
 use mathlib.Core.Logic.{⊎_elim}
@@ -8,9 +7,9 @@ use lib.ListN.{length-drop, take-append-drop}
 use lib.Seq.{take_all}
 use Rattle.rules.specs.Lists.{first_place, some_of}
 use Rattle.laws_outline.specs.ListLaws.{answer, first_place_in, no_first_place}
-use Rattle.samples.specs.Positions.{at, Listed}
-use Rattle.round.specs.Tops.{Scaled, slope_by, reaches}
-use Rattle.round.proofs.RoundWords.{handed}
+use Rattle.samples.specs.Positions.{Listed}
+use Rattle.samples.specs.Sides.{seen, size}
+use Rattle.round.specs.Tops.{as_scaled, reaches}
 use Rattle.round.proofs.tops.next.Goals as goal
 
 module _ (list : List ℕ) (i : ℕ) where
@@ -32,16 +31,14 @@ pub reach-requires : goal.reach-requires
 reach-requires c =
     let h = c.requires.0 in
     record {
-      sampled = h.sampled;
-      listed = subst (Listed (length c.args.e.now)) (sym (rest-is c.args.list.now c.args.i)) (rest-listed c.args.list.now c.args.i h.listed);
+      listed = subst (Listed (size c.args.side)) (sym (rest-is c.args.list.now c.args.i)) (rest-listed c.args.list.now c.args.i h.listed);
       given = h.given;
-      near = subst Scaled (sym (handed c.ranges.rise c.ranges.run)) h.near;
     }
 
 pub overflow_add-result : goal.overflow_add-result
 overflow_add-result c =
     let a = c.args in
-    let places = at a.e.now a.n.now a.lower in
-    let test = reaches places (slope_by (to_z w64 (of_z w64 a.rise)) (to_z w64 (of_z w64 a.run))) a.top in
+    let places = seen a.side in
+    let test = reaches places (as_scaled a.k) a.top in
     let place_is : c.reach.result ≡ first_place test (drop a.i a.list.now) = c.reach.ensures ∙ ap (first_place test) (rest-is a.list.now a.i) in
     omega (arith, place_is, place_inside a.list.now a.i test c.requires.1)

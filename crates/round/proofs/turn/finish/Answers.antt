@@ -5,16 +5,16 @@ use mathlib.Core.Path.{ap₂}
 use lib.Seq.{length-take-le, take-append-le}
 use Rattle.rules.specs.Round.{paired, kept, keep, round_with}
 use Rattle.slopes.specs.Fractions.{as_slope}
-use Rattle.samples.specs.Positions.{at}
+use Rattle.samples.specs.Sides.{seen}
 use Rattle.round.specs.Keeping.{towards}
 use Rattle.round.proofs.Rounding.{tops_found, tops_west, tops_east}
 use Rattle.round.proofs.turn.finish.Goals as goal
-use Rattle.round.proofs.turn.finish.Goals.{then-top-a+else-a-top, else-top-a}
+use Rattle.round.proofs.turn.finish.Goals.{else-top-a-via-then-top-a+else-a-top, else-top-a-via-else-top-a}
 
 pub returns-then-a-top : goal.returns-then-a-top
 returns-then-a-top c =
     let a = c.args in
-    let places = at a.e.now a.n.now a.lower in
+    let places = seen a.side in
     let list = take a.t a.w.now in
     let top = c.of_list-top.result in
     let long = length-take-le a.t a.w.now c.requires.room in
@@ -32,7 +32,7 @@ returns-then-a-top c =
 pub returns : goal.returns
 returns c =
     let a = c.args in
-    let places = at a.e.now a.n.now a.lower in
+    let places = seen a.side in
     let K = as_slope a.k in
     let list = take a.t a.w.now in
     let t = c.of_list-top.result in
@@ -48,10 +48,10 @@ returns c =
     let same : length ys ≡ length list = c.keep-m.auto.w in
     let fewer = front.fewer in
     let tests : kept (keep places (towards (int_le t.to a.a) K) (paired list)) ≡ round_with places a.a K (get_or list 0 0) (drop 1 list) =
-    elim c.if-top-a.branch [
-      | then-top-a+else-a-top w ↦
+    elim c.else-top-a.branch [
+      | else-top-a-via-then-top-a+else-a-top w ↦
           tops_west places a.a K list one top (sym (ap₂ int_le from_is a-is) ∙ w.if-top-a.true) (sym (ap₂ int_lt a-is to_is) ∙ w.if-a-top.false)
-      | else-top-a w ↦ tops_east places a.a K list one top (sym (ap₂ int_le from_is a-is) ∙ w.if-top-a.false)
+      | else-top-a-via-else-top-a w ↦ tops_east places a.a K list one top (sym (ap₂ int_le from_is a-is) ∙ w.if-top-a.false)
     ]
     in
     record {

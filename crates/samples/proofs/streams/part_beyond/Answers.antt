@@ -1,13 +1,15 @@
-use Rattle.std.proofs.Common.{sym, ap, ◌∙◌, ℤ, pos, neg_ℤ, to_z-of_z}
+use Rattle.std.proofs.Common.{◌≡◌, refl, ap, ◌∙◌, Bool, true, false, not, ◌||◌, ℤ, pos, neg_ℤ, to_z-of_z}
 use Rattle.std.specs.Int.Signed.{lt_z}
-use Rattle.rules.specs.Streams.{limit}
+use Rattle.rules.specs.Streams.{limit, within}
 use Rattle.samples.specs.Samples.{beyond-below, beyond-above}
 use Rattle.samples.proofs.streams.part_beyond.Goals as goal
 
-pub returns-then-x : goal.returns-then-x
-returns-then-x c = beyond-below c.args.x (sym (ap (λ (z : ℤ). lt_z z (neg_ℤ (pos limit))) (to_z-of_z c.ranges.x)) ∙ c.if-x.true)
+by_tests : (z : ℤ) (b : Bool) → lt_z z (neg_ℤ (pos limit)) ≡ b → (b || lt_z (pos limit) z) ≡ not (within z)
+by_tests z true e = beyond-below z e
+by_tests z false e = beyond-above z e
 
 pub returns : goal.returns
 returns c =
-    let is = to_z-of_z c.ranges.x in
-    ap (lt_z (pos limit)) is ∙ beyond-above c.args.x (sym (ap (λ (z : ℤ). lt_z z (neg_ℤ (pos limit))) is) ∙ c.if-x.false)
+    let z = c.args.x in
+    ap (λ (y : ℤ). lt_z y (neg_ℤ (pos limit)) || lt_z (pos limit) y) (to_z-of_z c.ranges.x)
+    ∙ by_tests z (lt_z z (neg_ℤ (pos limit))) refl

@@ -15,4 +15,4 @@ loop-i-preserved c =
     passed_more (λ x. leb a.count x) 0 a.list.now c.loop-i.i (omega arith) (lt-leb a.count (get_or a.list.now c.loop-i.i 0) (omega arith)) c.loop-i.invariant
 
 pub returns : goal.returns
-returns c = passed_all (λ x. leb c.args.count x) c.loop-i-test.false c.loop-i.invariant
+returns c = let here = passed_all (λ x. leb c.args.count x) c.loop-i-test.false c.loop-i.invariant in omega (arith, here)

@@ -14,17 +14,17 @@ listed-east : (e : List ℤ) (list : List ℕ) (i : ℕ) → get_or (map (east_o
 listed-east e list i = get_or-map (east_of e) list i 0
 
 pub east-x-requires : goal.east-x-requires
-east-x-requires c = listed_at c.requires c.loop-i.i c.loop-i-test.true
+east-x-requires c = listed_at c.requires c.loop-number.number-index c.loop-number-test.true
 
-pub loop-i-preserved : goal.loop-i-preserved
-loop-i-preserved c =
+pub loop-number-preserved : goal.loop-number-preserved
+loop-number-preserved c =
     let a = c.args in
-    let l = c.loop-i in
+    let l = c.loop-number in
     let e = a.e.now in
     let list = a.list.now in
     let z = to_z w64 (of_z w64 a.a) in
     let fits : to_z w64 (of_z w64 c.east-x.result) ≡ c.east-x.result = search rules in
-    let is = fits ∙ c.east-x.ensures ∙ sym (listed-east e list l.i) in
+    let is = fits ∙ c.east-x.ensures ∙ sym (listed-east e list l.number-index) in
     let inside = length-map list (east_of e) in (
       seen_more (λ y. le_z y z) (east_of e 0) _ (omega arith) (ap (λ (y : ℤ). le_z y z) is) l.invariant.0,
       seen_more (λ y. lt_z z y) (east_of e 0) _ (omega arith) (ap (λ (y : ℤ). lt_z z y) is) l.invariant.1,
@@ -34,10 +34,9 @@ pub returns : goal.returns
 unfolding easts_span
 returns c =
     let a = c.args in
-    let l = c.loop-i in
+    let l = c.loop-number in
     let easts = map (east_of a.e.now) a.list.now in
     let z = to_z w64 (of_z w64 a.a) in
     let inside = length-map a.list.now (east_of a.e.now) in
-    c.both.ensures
-    ∙ ap₂ ◌&&◌ (seen_all (λ y. le_z y z) (omega arith) l.invariant.0) (seen_all (λ y. lt_z z y) (omega arith) l.invariant.1)
+    ap₂ ◌&&◌ (seen_all (λ y. le_z y z) (omega arith) l.invariant.0) (seen_all (λ y. lt_z z y) (omega arith) l.invariant.1)
     ∙ ap (λ (y : ℤ). easts_span y easts) (to_z-of_z c.ranges.a)

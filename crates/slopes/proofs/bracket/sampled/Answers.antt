@@ -5,7 +5,7 @@ use Rattle.slopes.specs.Gathering.{gathered_asks, gathered_pivot}
 use Rattle.slopes.proofs.bracket.sampled.Goals as goal
 
 pub pick-requires : goal.pick-requires
-pick-requires c = gathered_asks c.requires.0 c.sample-g.auto.w c.sample-g.ensures c.rank_in-t.ensures.0 c.rank_in-t.ensures.1
+pick-requires c = gathered_asks c.requires.0 c.sample-g.auto.w c.sample-g.ensures (omega arith) (omega arith)
 
 pub returns : goal.returns
 returns c =

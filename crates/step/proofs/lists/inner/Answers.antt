@@ -6,19 +6,19 @@ use Rattle.step.proofs.SignedWords.{word}
 use Rattle.step.proofs.Passing.{passing_none, passing_more, passing_all}
 use Rattle.step.proofs.lists.inner.Goals as goal
 
-pub loop-i-init : goal.loop-i-init
-loop-i-init c =
+pub loop-x-init : goal.loop-x-init
+loop-x-init c =
     let a = c.args in
     passing_none (λ x. between (word a.from) (word a.to) (east_of a.e.now x)) (numbers (length a.e.now)) a.w.now 2
 
-pub loop-i-preserved : goal.loop-i-preserved
-loop-i-preserved c =
+pub loop-x-preserved : goal.loop-x-preserved
+loop-x-preserved c =
     let a = c.args in
-    let l = c.loop-i in
+    let l = c.loop-x in
     let k : word c.east.result ≡ c.east.result = search rules in
     passing_more (λ x. between (word a.from) (word a.to) (east_of a.e.now x)) (numbers (length a.e.now)) a.w.now 2 _
     (c.between.ensures ∙ ap (between (word a.from) (word a.to)) (k ∙ c.east.ensures))
-    (sym (numbers-at (length a.e.now) l.i 0 (omega arith)))
+    (sym (numbers-at (length a.e.now) l.x 0 (omega arith)))
     (omega (arith, numbers-length (length a.e.now)))
     (omega (arith, l.invariant.few, c.requires))
     l.invariant
@@ -28,6 +28,6 @@ returns c =
     let a = c.args in
     let f : word a.from ≡ a.from = search rules in
     let t : word a.to ≡ a.to = search rules in
-    subst₂ (λ (y z : ℤ). Passed (λ x. between y z (east_of a.e.now x)) (numbers (length a.e.now)) a.w.now 2 c.loop-i.k c.loop-i.w) f t
+    subst₂ (λ (y z : ℤ). Passed (λ x. between y z (east_of a.e.now x)) (numbers (length a.e.now)) a.w.now 2 c.loop-x.k c.loop-x.w) f t
     (passing_all (λ x. between (word a.from) (word a.to) (east_of a.e.now x)) (numbers (length a.e.now)) a.w.now 2
-    (omega (arith, numbers-length (length a.e.now))) c.loop-i.invariant)
+    (omega (arith, numbers-length (length a.e.now))) c.loop-x.invariant)

@@ -3,4 +3,4 @@ use Rattle.sum.proofs.reach.outermost.Goals as goal
 
 pub returns : goal.returns
 returns c =
-    strongest-added c.args.course.east c.args.course.north c.strongest_corner.ensures c.strongest_corner-2.ensures c.added.ensures
+    strongest-added c.args.course.east c.args.course.north c.strongest.ensures c.strongest-2.ensures c.added.ensures

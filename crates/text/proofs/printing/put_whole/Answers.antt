@@ -16,12 +16,12 @@ put_natural-requires c =
     let n : printed_whole c.args.z ≡ minus ∷ printed_natural (nat_abs c.args.z) =
     whole_negative c.args.z (rw (to_z-of_z c.ranges.z) at c.if-z-lt0.true) in
     let p = c.put_byte-next.ensures in
-    let m : c.magnitude.result ≡ nat_abs c.args.z = c.magnitude.ensures ∙ ap nat_abs (to_z-of_z c.ranges.z) in
+    let m : c.unsigned_abs.result ≡ nat_abs c.args.z = c.unsigned_abs.ensures.value ∙ ap nat_abs (to_z-of_z c.ranges.z) in
     rw m (omega (arith, ap length n, c.requires, p.next_is, put-length p))
 
 pub returns-then-z-lt0 : goal.returns-then-z-lt0
 returns-then-z-lt0 c =
-    let m : c.magnitude.result ≡ nat_abs c.args.z = c.magnitude.ensures ∙ ap nat_abs (to_z-of_z c.ranges.z) in
+    let m : c.unsigned_abs.result ≡ nat_abs c.args.z = c.unsigned_abs.ensures.value ∙ ap nat_abs (to_z-of_z c.ranges.z) in
     rw (whole_negative c.args.z (rw (to_z-of_z c.ranges.z) at c.if-z-lt0.true))
     (then c.put_byte-next.ensures (rw m at c.put_natural.ensures))
 
@@ -29,10 +29,10 @@ pub put_natural-requires-2 : goal.put_natural-requires-2
 put_natural-requires-2 c =
     let n : printed_whole c.args.z ≡ printed_natural (nat_abs c.args.z) =
     whole_other c.args.z (rw (to_z-of_z c.ranges.z) at c.if-z-lt0.false) in
-    let m : c.magnitude-2.result ≡ nat_abs c.args.z = c.magnitude-2.ensures ∙ ap nat_abs (to_z-of_z c.ranges.z) in
+    let m : c.unsigned_abs-2.result ≡ nat_abs c.args.z = c.unsigned_abs-2.ensures.value ∙ ap nat_abs (to_z-of_z c.ranges.z) in
     rw m (omega (arith, ap length n, c.requires))
 
 pub returns : goal.returns
 returns c =
-    let m : c.magnitude-2.result ≡ nat_abs c.args.z = c.magnitude-2.ensures ∙ ap nat_abs (to_z-of_z c.ranges.z) in
+    let m : c.unsigned_abs-2.result ≡ nat_abs c.args.z = c.unsigned_abs-2.ensures.value ∙ ap nat_abs (to_z-of_z c.ranges.z) in
     rw (whole_other c.args.z (rw (to_z-of_z c.ranges.z) at c.if-z-lt0.false)) (rw m at c.put_natural-2.ensures)

@@ -1,33 +1,33 @@
 use Rattle.std.specs.Prelude.{[], ◌∷◌, ◌++◌}
-use Rattle.std.proofs.Common.{sym, ap, ◌∙◌, arith}
-use Rattle.rules.specs.Streams.{stream}
+use Rattle.std.proofs.Common.{refl, sym, ap, ◌∙◌, arith, rules}
 use Rattle.rules.specs.Refusals.{done}
 use Rattle.rules.specs.Entries.{counted}
+use Rattle.samples.specs.HeldStream.{stream_of}
 use Rattle.text.specs.TextLines.{passed_none, passed_over, passed_bad, passed_more, passed_all}
 use Rattle.text.proofs.reading.decide.Goals as goal
 
-pub loop-at-init : goal.loop-at-init
-loop-at-init c = ([], passed_none c.args.text.now)
+pub loop-count-init : goal.loop-count-init
+loop-count-init c = ([], passed_none c.args.text.now)
 
-pub returns-then-count-eq-MOST_LINES : goal.returns-then-count-eq-MOST_LINES
-returns-then-count-eq-MOST_LINES c = sym (ap counted (passed_over c.loop-at.invariant.1 (omega arith) (omega arith)))
+pub returns-then-is_empty : goal.returns-then-is_empty
+returns-then-is_empty c =
+    let i = c.loop-count.invariant in
+    sym (ap counted (passed_all i.1 (search rules)) ∙ ap done i.1.many)
 
-pub returns-in-Bad : goal.returns-in-Bad
-returns-in-Bad c =
-    let i = c.loop-at.invariant.1 in
-    let l = rw c.in-Bad.is at c.line_at.ensures in
-    sym (ap counted (passed_bad i (omega arith) (omega (arith, i.few)) (sym l.line)))
+pub returns-in_default : goal.returns-in_default
+returns-in_default c =
+    rw (c.at.ensures, passed_bad c.loop-count.invariant.1 (omega arith) (search rules) (sym c.in_default.ensures)) refl
 
-pub loop-at-preserved : goal.loop-at-preserved
-loop-at-preserved c =
-    let i = c.loop-at.invariant in
-    let l = rw c.in-Sample.is at c.line_at.ensures in
-    let s = stream c.in-Sample.east c.in-Sample.north in (
-      i.0 ++ (s ∷ []),
-      passed_more i.1 (omega arith) (omega (arith, i.1.few)) s c.in-Sample.next (sym l.line) l.further.1,
-    )
+pub loop-count-preserved : goal.loop-count-preserved
+loop-count-preserved c =
+    let i = c.loop-count.invariant in
+    let s = stream_of c.in-Some.first.sample in
+    (i.0 ++ (s ∷ []), passed_more i.1 (omega arith) s c.in-Some.first.rest.now (sym c.in-Some.ensures))
+
+pub returns-then-is_empty-2 : goal.returns-then-is_empty-2
+returns-then-is_empty-2 c =
+    let i = c.loop-count.invariant in
+    sym (ap counted (passed_all i.1 (search rules)) ∙ ap done (i.1.many ∙ omega arith))
 
 pub returns : goal.returns
-returns c =
-    let i = c.loop-at.invariant in
-    sym (ap counted (passed_all i.1 (omega arith)) ∙ ap done i.1.many)
+returns c = rw (c.into.ensures, passed_over c.loop-count.invariant.1 (search rules) (omega arith)) refl

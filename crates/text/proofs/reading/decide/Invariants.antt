@@ -1,10 +1,7 @@
-use Rattle.std.specs.Prelude.{List, ◌-◌, length}
+use Rattle.std.specs.Prelude.{List}
 use Rattle.rules.specs.Streams.{Stream}
 use Rattle.text.specs.TextLines.{Passed}
 use Rattle.text.proofs.reading.decide.Given as goal
 
-abbrev pub invariant-loop-at : goal.invariant-loop-at
-invariant-loop-at l = (xs : List Stream) × Passed l.text l.at l.count xs
-
-abbrev pub decreases-loop-at : goal.decreases-loop-at
-decreases-loop-at l = length l.text - l.at
+abbrev pub invariant-loop-count : goal.invariant-loop-count
+invariant-loop-count l = (xs : List Stream) × Passed l.text l.rest l.count xs

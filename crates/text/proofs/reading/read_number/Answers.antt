@@ -1,22 +1,26 @@
-use Rattle.std.proofs.Common.{sym, ap, ◌∙◌, arith}
-use borrow.Author.Rules.{part_to_end}
-use Rattle.rules.specs.Program.{unsigned, negated, not_negated_number}
-use Rattle.text.specs.Digits.{number_empty, number-minus, number_plain}
+use Rattle.std.proofs.Common.{refl, rules}
+use Rattle.text.specs.Digits.{number_stripped, number_unstripped}
 use Rattle.text.proofs.reading.read_number.Goals as goal
 
-pub returns-then-s-eq0 : goal.returns-then-s-eq0
-returns-then-s-eq0 c = sym (number_empty c.args.s.now (omega arith))
+pub returns-in_err-n-in-Some : goal.returns-in_err-n-in-Some
+returns-in_err-n-in-Some c =
+    let p = c.in-Some.ensures.cases in
+    rw (c.from_residual.ensures, number_stripped c.args.s.now c.in-Some.digits.now p.0 p.1, ← c.in_err-n-in-Some.ensures.value) refl
 
-pub returns-then-s-eq-MINUS : goal.returns-then-s-eq-MINUS
-returns-then-s-eq-MINUS c =
-    let s = c.args.s.now in
-    c.negated.ensures
-    ∙ ap negated (c.read_unsigned.ensures.value ∙ ap unsigned (part_to_end s 1))
-    ∙ sym (number-minus s (omega arith) c.if-s-eq-MINUS.true)
+pub returns-then-n-eq0 : goal.returns-then-n-eq0
+returns-then-n-eq0 c =
+    let p = c.in-Some.ensures.cases in
+    rw (number_stripped c.args.s.now c.in-Some.digits.now p.0 p.1, ← c.in_ok-n-in-Some.ensures.value, c.if-n-eq0.true) refl
 
-pub returns : goal.returns
-returns c =
-    let s = c.args.s.now in
-    c.not_negated.ensures
-    ∙ ap not_negated_number c.read_unsigned-2.ensures.value
-    ∙ sym (number_plain s (omega arith) c.if-s-eq-MINUS.false)
+pub returns-else-n-eq0 : goal.returns-else-n-eq0
+returns-else-n-eq0 c =
+    let p = c.in-Some.ensures.cases in
+    rw (number_stripped c.args.s.now c.in-Some.digits.now p.0 p.1, ← c.in_ok-n-in-Some.ensures.value) (search rules)
+
+pub returns-in_err-n-in-None : goal.returns-in_err-n-in-None
+returns-in_err-n-in-None c =
+    rw (c.from_residual-in_err-n-in-None.ensures, number_unstripped c.args.s.now c.in-None.ensures.cases, ← c.in_err-n-in-None.ensures.value) refl
+
+pub returns-in_ok-n-in-None : goal.returns-in_ok-n-in-None
+returns-in_ok-n-in-None c =
+    rw (number_unstripped c.args.s.now c.in-None.ensures.cases, ← c.in_ok-n-in-None.ensures.value) (search rules)

@@ -1,41 +1,26 @@
-use Rattle.std.specs.Prelude.{◌≡◌}
-use Rattle.std.proofs.Common.{w32, to_z, of_z, sym, arith, rules}
-use Rattle.text.specs.TextLines.{never_bad}
-use Rattle.text.specs.Writing.{writing_none, writing_more, room, east-length, north-length, east_after, north_after}
+use Rattle.std.specs.Prelude.{◌≡◌, Some}
+use Rattle.std.proofs.Common.{w32, to_z, of_z, sym, ap, ◌∙◌, arith, rules}
+use Rattle.samples.specs.HeldStream.{stream_of}
+use Rattle.text.specs.TextAnswers.{first_as, first_there}
+use Rattle.text.specs.Writing.{writing_none, writing_more, line_comes, east_after, north_after}
 use Rattle.text.proofs.reading.write.Goals as goal
 
-pub loop-at-init : goal.loop-at-init
-loop-at-init c = writing_none c.args.text.now c.args.east.now c.args.north.now
+pub loop-i-init : goal.loop-i-init
+loop-i-init c = writing_none c.args.text.now c.args.east.now c.args.north.now
 
-pub bounds-east-i : goal.bounds-east-i
-bounds-east-i c =
-    let f = c.requires in
-    let w = c.loop-at.invariant in
-    let l = rw c.in-Sample.is at c.line_at.ensures in
-    let r = room f w (omega arith) c.in-Sample.e c.in-Sample.n c.in-Sample.next (sym l.line) l.further.1 in
-    omega (arith, east-length f w, f.east_room, r)
+pub unwrap-first-requires : goal.unwrap-first-requires
+unwrap-first-requires c =
+    first_there c.first_line.result (λ e. line_comes c.requires c.loop-i.invariant (omega arith) (sym c.first_line.ensures ∙ e))
 
-pub bounds-north-i : goal.bounds-north-i
-bounds-north-i c =
-    let f = c.requires in
-    let w = c.loop-at.invariant in
-    let l = rw c.in-Sample.is at c.line_at.ensures in
-    let r = room f w (omega arith) c.in-Sample.e c.in-Sample.n c.in-Sample.next (sym l.line) l.further.1 in
-    omega (arith, north-length f w, f.north_room, r)
-
-pub returns-in-Bad : goal.returns-in-Bad
-returns-in-Bad c =
-    let l = rw c.in-Bad.is at c.line_at.ensures in
-    absurd (never_bad c.loop-at.invariant.passed c.requires.good (omega arith) (sym l.line))
-
-pub loop-at-preserved : goal.loop-at-preserved
-loop-at-preserved c =
-    let l = rw c.in-Sample.is at c.line_at.ensures in
-    let e : to_z w32 (of_z w32 c.in-Sample.e) ≡ c.in-Sample.e = search rules in
-    let n : to_z w32 (of_z w32 c.in-Sample.n) ≡ c.in-Sample.n = search rules in
+pub loop-i-preserved : goal.loop-i-preserved
+loop-i-preserved c =
+    let f = c.unwrap-first.result in
+    let e : to_z w32 (of_z w32 f.sample.east) ≡ f.sample.east = search rules in
+    let n : to_z w32 (of_z w32 f.sample.north) ≡ f.sample.north = search rules in
+    let found : c.first_line.result ≡ Some f = search rules in
     rw (e, n)
-    (writing_more c.requires c.loop-at.invariant (omega arith) c.in-Sample.e c.in-Sample.n c.in-Sample.next (sym l.line) l.further.1)
+    (writing_more c.requires c.loop-i.invariant (stream_of f.sample) f.rest.now (sym c.first_line.ensures ∙ ap first_as found) (omega arith))
 
 pub returns : goal.returns
 returns c =
-    record { east = east_after c.requires c.loop-at.invariant (omega arith); north = north_after c.requires c.loop-at.invariant (omega arith) }
+    record { east = east_after c.requires c.loop-i.invariant (omega arith); north = north_after c.requires c.loop-i.invariant (omega arith) }

@@ -19,4 +19,4 @@ loop-s-preserved c =
     let p = c.requires in
     let inv = c.loop-s.invariant in
     let gone = sym c.stays.ensures ∙ c.loop-s-test.true in
-    (omega arith, λ i l. one_fewer c.loop-s.t (stacked_less inv.0 p.3.stacked) (λ j m. p.3.before j (omega arith)) gone (inv.1 i l))
+    (omega arith, λ i l. one_fewer c.loop-s.t (stacked_less inv.0 p.2.stacked) (λ j m. p.2.before j (omega arith)) gone (inv.1 i l))

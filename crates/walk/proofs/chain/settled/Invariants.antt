@@ -8,7 +8,7 @@ use Rattle.walk.proofs.chain.settled.Given as goal
 
 abbrev pub invariant-loop-s : goal.invariant-loop-s
 invariant-loop-s l =
-    let f = listed_at l.east l.north l.east2 l.north2 l.lower l.w in
+    let f = listed_at l.rings.east.now l.rings.north.now l.rings.east2.now l.rings.north2.now l.lower l.w in
     (l.t ≤ l.top) × ((i : ℕ) → i < l.top → Under (With (Upto f l.t) (stream_of l.s)) (f i))
 
 abbrev pub decreases-loop-s : goal.decreases-loop-s

@@ -17,11 +17,11 @@ returns-then-top-eq1 c =
     let a = c.args in
     c.west.ensures
     ∙ ap (λ (q : Stream). lt_z q.east a.s.east) c.listed-q.ensures
-    ∙ sym (stays-one (listed_at a.east.now a.north.now a.east2.now a.north2.now a.lower a.w.now) a.top (stream_of a.s) c.if-top-eq1.true)
+    ∙ sym (stays-one (listed_at a.rings.east.now a.rings.north.now a.rings.east2.now a.rings.north2.now a.lower a.w.now) a.top (stream_of a.s) c.if-top-eq1.true)
 
 pub returns : goal.returns
 returns c =
     let a = c.args in
     c.strictly_right.ensures
     ∙ ap₂ (λ (p q : Stream). lt_z (side p q (stream_of a.s)) (pos 0)) c.listed-p.ensures c.listed-q.ensures
-    ∙ sym (stays_more (listed_at a.east.now a.north.now a.east2.now a.north2.now a.lower a.w.now) a.top (stream_of a.s) (omega arith))
+    ∙ sym (stays_more (listed_at a.rings.east.now a.rings.north.now a.rings.east2.now a.rings.north2.now a.lower a.w.now) a.top (stream_of a.s) (omega arith))

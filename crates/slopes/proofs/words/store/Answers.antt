@@ -1,7 +1,0 @@
-use Rattle.std.proofs.Common.{refl}
-use Rattle.slopes.specs.Fractions.{put}
-use Rattle.slopes.proofs.words.store.Goals as goal
-
-pub returns : goal.returns
-unfolding put
-returns c = refl
