@@ -16,6 +16,7 @@ use samples::listed::Samples;
 use samples::refusals::{Reason, Refusal};
 use samples::sides::Side;
 use samples::tests::spans;
+use samples::words::clear;
 
 // The two ends of a bridge, by their numbers.
 #[derive(Clone, Copy)]
@@ -82,6 +83,6 @@ pub fn bridge(east: &[i32], north: &[i32], a: i32, scratch: &mut [u32]) -> Resul
         lower: false,
     };
     let found = bridge_of(side, a as i64, scratch, count);
-    scratch.fill(0);
+    clear(scratch);
     Ok(found)
 }

@@ -9,6 +9,7 @@ use super::Counts;
 use samples::listed::Samples;
 use samples::refusals::{Reason, Refusal};
 use samples::sides::Side;
+use samples::words::clear;
 use step::chain;
 use step::ends::end_of;
 use step::lists::first;
@@ -32,7 +33,7 @@ fn side(s: Side, w: &mut [u32]) -> Option<usize>
 fn no_bridge(scratch: &mut [u32]) -> Refusal
     ensures { (result ≡ record { reason = StepWithoutBridge; place = 0 }) × (scratch.new ≡ zeros scratch.old) }
 {
-    scratch.fill(0);
+    clear(scratch);
     Reason::StepWithoutBridge.into()
 }
 

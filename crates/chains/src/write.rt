@@ -4,6 +4,7 @@ ghost use Rattle.chains.specs.Promise.{ChainsWritten};
 
 use super::Counts;
 use samples::refusals::{Reason, Refusal};
+use samples::words::{clear, write};
 
 // Two chains of so many numbers at the front of scratch.
 pub fn both(
@@ -19,12 +20,12 @@ pub fn both(
     let u = counts.upper;
     let v = counts.lower;
     if upper.len() < u || lower.len() < v {
-        scratch.fill(0);
+        clear(scratch);
         return Err(Reason::OutputShort.into());
     }
     let end = u + v;
-    upper[..u].copy_from_slice(&scratch[..u]);
-    lower[..v].copy_from_slice(&scratch[u..end]);
-    scratch.fill(0);
+    write(&scratch[..u], upper);
+    write(&scratch[u..end], lower);
+    clear(scratch);
     Ok(counts)
 }

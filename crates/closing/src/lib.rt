@@ -15,6 +15,7 @@ use crate::lower::left_in;
 use crate::writing::put;
 use samples::refusals::{Reason, Refusal};
 use samples::tests::too_short;
+use samples::words::clear;
 use walk::corners::Rings;
 
 mod lower;
@@ -41,10 +42,10 @@ pub fn close(
     let k = left_in(rings, scratch, u, l);
     let n = u + (k.end - k.start);
     if too_short(out_east.len(), out_north.len(), n) {
-        scratch.fill(0);
+        clear(scratch);
         return Err(Reason::OutputShort.into());
     }
     put(rings, scratch, u, k.end, n, out_east, out_north);
-    scratch.fill(0);
+    clear(scratch);
     Ok(n)
 }

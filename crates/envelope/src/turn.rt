@@ -3,6 +3,7 @@
 
 ghost use Rattle.std.specs.Prelude.{◌≡◌, true, map, ◌≤◌, ◌<◌, neg_ℤ, length};
 ghost use Rattle.rules.specs.Lists.{written};
+ghost use Rattle.rules.specs.Chain.{leftmost};
 ghost use Rattle.rules.specs.Streams.{sample};
 ghost use Rattle.rules.specs.Use.{envelope};
 ghost use Rattle.envelope.specs.CornersNear.{CornersNear};
@@ -15,8 +16,22 @@ ghost use Rattle.samples.specs.HeldStream.{stream_of};
 use crate::test::of_ring;
 use samples::corners::{Corners, Lists};
 use samples::refusals::{Reason, Refusal};
-use samples::streams::{Stream, leftmost};
+use samples::streams::Stream;
 use samples::tests::too_short;
+
+// p is nearer the left end than q, as `samples` `leftmost` says without a jump. On a ring a processor foretells these jumps; without them each step of the scan
+// waits for the corner of the step before.
+fn leftmost_by_jumps(p: Stream, q: Stream) -> bool
+    ensures { result ≡ leftmost (stream_of p) (stream_of q) }
+{
+    if p.east < q.east {
+        return true;
+    }
+    if p.east == q.east {
+        return q.north < p.north;
+    }
+    false
+}
 
 // The first place of the corner with the greatest east and, among those, the least north.
 pub fn entry<C: Corners>(ring: &C) -> usize
@@ -25,7 +40,7 @@ pub fn entry<C: Corners>(ring: &C) -> usize
 {
     let mut best = 0;
     for i in 1..ring.count() {
-        if leftmost(ring.corner(best), ring.corner(i)) {
+        if leftmost_by_jumps(ring.corner(best), ring.corner(i)) {
             best = i;
         }
     }

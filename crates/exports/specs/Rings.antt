@@ -1,10 +1,13 @@
 -- What the C face of the uses of a ring gives for each answer of the rules: number 0 and the values, or the refusal's number and place.
 -- Assumes nothing.
-use Rattle.std.specs.Prelude.{◌≡◌, Bool, true, false, List, ℕ, ℤ, pos, length}
-use Rattle.std.proofs.Common.{sym, ◌∙◌}
+use Rattle.std.specs.Prelude.{◌≡◌, refl, Bool, true, false, List, ℕ, ℤ, pos, length, Result}
+use Rattle.std.proofs.Common.{sym, ap, ◌∙◌}
 use Rattle.rules.specs.Streams.{Stream}
 use Rattle.rules.specs.Refusals.{Answer, refused, done, output_after, scratch_after}
-use Rattle.rules.specs.Entries.{Strongest, easts, norths}
+use Rattle.rules.specs.Entries.{Strongest, easts, norths, counted}
+use Rattle.samples.specs.Answers.{answer_of}
+use Rattle.samples.specs.declared.refusals.Refusal.{Refusal}
+use Rattle.closing.specs.RingPromise.{Outcome}
 use Rattle.exports.specs.declared.uses.StrongestC.{StrongestC}
 use Rattle.exports.specs.declared.uses.CoverTold.{CoverTold}
 use Rattle.exports.specs.declared.counts.CountedC.{CountedC}
@@ -28,6 +31,14 @@ abbrev pub count_face : Answer ℕ → CountedC
 count_face (done n) = record { number = 0; place = 0; count = n }
 count_face (refused number place) = record { number = number; place = place; count = 0 }
 
+pub counted_is : {A : Type 0} (a : Answer (List A)) → count_face (counted a) ≡ counted_face a
+counted_is (done r) = refl
+counted_is (refused number place) = refl
+
+-- and from what an entry that writes a list promises of its count
+pub told_face : {A : Type 0} (r : Result ℕ Refusal) (a : Answer (List A)) → answer_of r ≡ counted a → count_face (answer_of r) ≡ counted_face a
+told_face r a e = ap count_face e ∙ counted_is a
+
 -- the parts of a ring's corners, as they are written to the two output lists
 abbrev pub parts_east : List Stream → List ℤ
 parts_east r = easts r
@@ -43,6 +54,11 @@ pub record RingFace (answer : Answer (List Stream)) (r : CountedC) (east east' n
   pub scratch-is : scratch' ≡ scratch_after answer scratch
 
 module _ {answer : Answer (List Stream)} {east east' north north' : List ℤ} {scratch scratch' : List ℕ} where
+  -- the face of an entry's count, with the lists as the entry leaves them
+  pub outcome_face : {r : Result ℕ Refusal} {c : CountedC} → c ≡ count_face (answer_of r) → Outcome answer r east east' north north' scratch scratch'
+      → RingFace answer c east east' north north' scratch scratch'
+  outcome_face {r} e o = record { says = e ∙ told_face r answer o.says; east_after = o.east_after; north_after = o.north_after; scratch-is = o.scratch-is }
+
   -- no two outcomes
   pub ring-face-one : {r t : CountedC} {east'' north'' : List ℤ} {scratch'' : List ℕ}
       → RingFace answer r east east' north north' scratch scratch' → RingFace answer t east east'' north north'' scratch scratch''

@@ -13,9 +13,10 @@ ghost use Rattle.closing.specs.RingPromise.{unless_short, Outcome};
 ghost use Rattle.join.specs.RingWays.{WaysHeld};
 
 use closing::close;
-use envelope::test::two_rings;
+use envelope::test::of_ring;
 use halves::scan;
-use samples::refusals::Refusal;
+use samples::refusals::{Reason, Refusal};
+use samples::tests::MOST;
 use walk::chain::chain;
 use walk::corners::Rings;
 use walk::draw::Way;
@@ -104,6 +105,15 @@ pub fn join(
         out_north.old scratch.old)
         result out_east.old out_east.new out_north.old out_north.new scratch.old scratch.new }
 {
-    two_rings(east, north, east2, north2, scratch)?;
+    // the tests of envelope's `two_rings`, one by one: each edit of this entry changes one of them
+    of_ring(east, north)?;
+    of_ring(east2, north2)?;
+    let both = east.len() + east2.len();
+    if MOST < both {
+        return Err(Reason::TooMany.into());
+    }
+    if scratch.len() < 16 * both + 64 {
+        return Err(Reason::ScratchShort.into());
+    }
     write_join(east, north, east2, north2, out_east, out_north, scratch)
 }

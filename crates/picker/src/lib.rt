@@ -14,6 +14,7 @@ ghost use Rattle.picker.specs.Promise.{PickPromise};
 
 use samples::refusals::{Reason, Refusal};
 use samples::tests::MOST;
+use samples::words::clear;
 
 // The key of rank r, in room for as many keys again. More than twenty keys are narrowed by the pivot to the side that has the rank, where the pick goes on; of
 // twenty or fewer the least is taken out until it has the rank. Of what is lent only the length stays.
@@ -62,6 +63,6 @@ pub fn pick(xs: &[i32], r: usize, scratch: &mut [u32]) -> Result<i32, Refusal>
     keys::load(xs, scratch);
     let (keys, room) = scratch.split_at_mut(n);
     let key = pick_key(keys, room, r);
-    scratch.fill(0);
+    clear(scratch);
     Ok(keys::number(key))
 }

@@ -1,22 +1,22 @@
 -- The outcome of reading a record, test by test in the rules' order.
 -- Assumes nothing.
-use Rattle.std.specs.Prelude.{◌≡◌, Bool, true, false, ◌||◌, ℕ, ◌≤◌, ◌<◌, ℤ, length}
+use Rattle.std.specs.Prelude.{◌≡◌, Bool, true, false, ◌||◌, ℕ, ◌+◌, ◌%◌, ◌≤◌, ◌<◌, ℤ, length}
 use Rattle.std.proofs.Common.{sym, ◌∙◌, arith}
 use Rattle.std.proofs.Math.Path.{ap}
 use Rattle.std.proofs.Math.Bool.{not}
 use mathlib.Core.List.{List, [], ◌∷◌}
-use borrow.Author.Tests.{lt-ltb, le-ltb}
+use borrow.Author.Tests.{lt-ltb, le-ltb, eqb-true, ltb-false, not-false}
 use Rattle.std.proofs.Math.Dec.{ltb}
 use Rattle.rules.specs.Lists.{some_of, first_place}
 use Rattle.rules.specs.Streams.{Stream, most, beyond}
 use Rattle.rules.specs.Use.{envelope}
-use Rattle.rules.specs.Record.{in_sense, corners_in, sense, corners_part, stored, meant}
+use Rattle.rules.specs.Record.{head_size, size_of_sense, corner_size, in_sense, version, said_length, said_end, corners_in, sense, corners_part, stored, meant}
 use Rattle.rules.specs.Refusals.{Answer, refused, done, Test, test, unless, too_many, part_beyond}
 use Rattle.rules.specs.Entries.{frame_tests, corner_tests, record_answer, ring_short}
 use Rattle.laws_refusals.specs.NoneHold.{when_done}
 use Rattle.laws_records.specs.InSense.{sense-length}
 use Rattle.samples.specs.Scans.{some_by_place}
-use Rattle.samples.specs.InOrder.{then_answer, answer_by, refuses, passes}
+use Rattle.samples.specs.InOrder.{then_answer, passed_tests, answer_by, refuses, passes}
 use Rattle.reader.specs.RecordAnswers.{corners_answer, found}
 
 -- ---- the bytes around the corners
@@ -33,6 +33,15 @@ module _ (bs : List ℕ) (es ns : List ℤ) where
   framed e =
       ap (λ (f : ℕ × List ℕ). corners_answer f.0 f.1 es ns) (sym (when_done (frame_tests bs) (found bs) e).1)
       ∙ sym (after_frame (sym e))
+
+-- where they are passed the corners start inside
+pub long_enough : {A : Type 0} (bs : List ℕ) (x : A) {y : A} → unless (frame_tests bs) x ≡ done y → head_size + size_of_sense (version bs) ≤ length bs
+long_enough bs x e =
+    let n = (passed_tests x (frame_tests bs) e).1.1 in
+    let head = ltb-false (length bs) head_size n.0 in
+    let multiple = eqb-true (said_length bs % corner_size) (size_of_sense (version bs)) (not-false _ n.1.0) in
+    let end = ltb-false (length bs) (said_end bs) n.1.1.0 in
+    omega arith
 
 -- ---- the corners
 

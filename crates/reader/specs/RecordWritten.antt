@@ -1,7 +1,7 @@
 -- One part of each corner written to the front of an output, place by place.
 -- Assumes nothing.
 use Rattle.std.specs.Prelude.{◌≡◌, refl, List, [], ◌∷◌, ◌++◌, map, ℕ, suc, ◌+◌, ◌≤◌, ◌<◌, ℤ, pos, length, get_or, take, drop, set}
-use Rattle.std.proofs.Common.{sym, ◌∙◌, add-one, arith, take_all, take-suc, drop-cons, length-take-le}
+use Rattle.std.proofs.Common.{sym, ◌∙◌, add-one, arith, length-append, length-drop, take_all, take-suc, drop-cons, length-take-le}
 use Rattle.std.proofs.lemmas.List.{map-append, length-map, set_at}
 use Rattle.std.proofs.Math.Seq.{append_snoc}
 use Rattle.rules.specs.Lists.{written}
@@ -14,6 +14,9 @@ module _ (part : Stream → ℤ) (xs : List Stream) (old : List ℤ) where
 
   count : (i : ℕ) → i ≤ length xs → length (map part (take i xs)) ≡ i
   count i h = length-map (take i xs) part ∙ length-take-le i xs h
+
+  pub parts-length : (i : ℕ) → i ≤ length xs → length xs ≤ length old → length (parts_so_far i) ≡ length old
+  parts-length i h l = length-append (map part (take i xs)) (drop i old) ∙ omega (arith, count i h, length-drop i old)
 
   pub parts_more : (i : ℕ) → i < length xs → length xs ≤ length old → set (parts_so_far i) i (part (sample xs i)) ≡ parts_so_far (i + 1)
   parts_more i h l =

@@ -23,20 +23,25 @@ pub fn ring(
         (ring_answer east.now north.now out_east.old out_north.old scratch.old)
         result out_east.old out_east.new out_north.old out_north.new scratch.old scratch.new }
 {
-    let counts = sides_of(east, north, scratch)?;
-    // with no second ring
-    let rings = Rings {
-        east,
-        north,
-        east2: &east[..0],
-        north2: &north[..0],
-    };
-    close(
-        rings,
-        counts.upper,
-        counts.lower,
-        out_east,
-        out_north,
-        scratch,
-    )
+    // no `?`: an edit gives the refusal another number, on its own line
+    match sides_of(east, north, scratch) {
+        Err(refusal) => Err(refusal),
+        Ok(counts) => {
+            // with no second ring
+            let rings = Rings {
+                east,
+                north,
+                east2: &east[..0],
+                north2: &north[..0],
+            };
+            close(
+                rings,
+                counts.upper,
+                counts.lower,
+                out_east,
+                out_north,
+                scratch,
+            )
+        }
+    }
 }

@@ -19,6 +19,7 @@ use samples::listed::Samples;
 use samples::refusals::{Reason, Refusal};
 use samples::sides::Side;
 use samples::tests::{MOST, first_unlisted, list_spans};
+use samples::words::{clear, write};
 
 // The tests of a round before 5, with so many words of scratch: 1, 2, 3, 7, 4, 6.
 // Not `Samples::tested`: here 2 counts the list items too, before 3.
@@ -56,12 +57,12 @@ fn answered(said: Said, output: &mut [u32], scratch: &mut [u32]) -> Result<Said,
 {
     if let Said::Kept(m) = said {
         if output.len() < m {
-            scratch.fill(0);
+            clear(scratch);
             return Err(Reason::OutputShort.into());
         }
-        output[..m].copy_from_slice(&scratch[..m]);
+        write(&scratch[..m], output);
     }
-    scratch.fill(0);
+    clear(scratch);
     Ok(said)
 }
 
@@ -79,7 +80,7 @@ pub fn round(
         output.new scratch.new }
 {
     tested(east, north, list, a as i64, scratch.len())?;
-    scratch[..list.len()].copy_from_slice(list);
+    write(list, scratch);
     let side = Side {
         samples: Samples { east, north },
         lower: false,

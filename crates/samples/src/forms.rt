@@ -49,6 +49,16 @@ impl TryFrom<u8> for Sense {
     }
 }
 
+// How many bytes say the sense: one in version 2, none in version 1.
+pub fn sense_size(version: u8) -> usize
+    ensures { result ≡ size_of_sense version }
+{
+    if version == 2 {
+        return 1;
+    }
+    0
+}
+
 impl Version {
     // Its byte.
     pub fn byte(self) -> u8
@@ -57,14 +67,11 @@ impl Version {
         self as u8
     }
 
-    // How many bytes say the sense: one in version 2, none in version 1.
+    // How many bytes say the sense.
     pub fn sense_size(self) -> usize
         ensures { result ≡ size_of_sense (version_byte self) }
     {
-        match self {
-            Version::First => 0,
-            Version::Second => 1,
-        }
+        sense_size(self.byte())
     }
 }
 

@@ -9,3 +9,4 @@ pub mod refusals;
 pub mod sides;
 pub mod streams;
 pub mod tests;
+pub mod words;

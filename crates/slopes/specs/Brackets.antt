@@ -1,10 +1,10 @@
 -- A bracket: the slopes from one a little below the rank up to one a little above it, kept behind those at the front, and the rank sought among them.
 -- Assumes nothing.
-use Rattle.std.specs.Prelude.{◌≡◌, refl, Bool, ℕ, ◌+◌, ◌*◌, ◌-◌, ◌≤◌, ◌<◌, length, get_or, take, drop}
-use Rattle.std.proofs.Common.{sym, ap, ap₂, ◌∙◌, subst, arith, length-drop, drop_at, length-take-le}
+use Rattle.std.specs.Prelude.{◌≡◌, refl, ◌⊎◌, Bool, ℕ, ◌+◌, ◌*◌, ◌-◌, ◌≤◌, ◌<◌, length, get_or, take, drop}
+use Rattle.std.proofs.Common.{sym, ap, ap₂, ◌∙◌, subst, inl, inr, arith, length-drop, drop_at, length-take-le}
 use mathlib.Core.List.{List, ◌++◌, append-nil, Memᴰ}
 use Rattle.std.proofs.Math.Seq.{drop-length}
-use borrow.Rule.Slice.PartMut.{put_mid}
+use borrow.Rule.Slice.PartMut.{put_mid, take_put}
 use Rattle.rules.specs.Lists.{those}
 use Rattle.rules.specs.Round.{Slope, slope_le}
 use Rattle.laws_ranks.specs.Counts.{bit, count, not_by, count-not, length-those, of_those}
@@ -13,16 +13,17 @@ use Rattle.laws_rounds.specs.Slopes.{Up, slope_order}
 use Rattle.slopes.specs.Fractions.{fraction, fraction_at, fractions, Sound, Pickable, Near}
 use Rattle.slopes.specs.Order.{rank_from_on, rank_upto_on}
 use Rattle.slopes.specs.Passes.{Stands, Listed, Alike, Kept, KeptFrom, Clear, Answers, behind, Bracketed, copied}
-use Rattle.slopes.specs.ScratchLaws.{length-fractions, near_of, part-is, length-put, put-alike, put_other, drop-put}
+use Rattle.slopes.specs.ScratchLaws.{length-fractions, near_of, part-is, alike_trans, alike-take, length-put, put-alike, put_other, drop-put}
 use Rattle.slopes.specs.PassLaws.{forward, kept_none, kept_more}
 use Rattle.slopes.specs.Gathering.{alike_answer, behind-is}
 
--- ---- keeping: of the first i those that pass the test, k of them, from slope m on; what lies before it is as it came, and the n from slope i on
+-- ---- keeping: of the first i those that pass the test, k of them, from slope m on; what lies before it is as it came, and the n from slope i on, and what lies
+-- behind slope m + i
 
 pub record Keeping (test : Slope → Bool) (n m : ℕ) (w v : List ℕ) (i k : ℕ) : Type 0 where
   pub long : length v ≡ length w
   pub front : Alike (2 * m) w v
-  pub rest : (j : ℕ) → 2 * i ≤ j → j < 2 * n → get_or v j 0 ≡ get_or w j 0
+  pub rest : (j : ℕ) → 2 * i ≤ j → (j < 2 * n) ⊎ (2 * (m + i) ≤ j) → get_or v j 0 ≡ get_or w j 0
   pub kept : Kept test i w (drop (2 * m) v) k
 
 pub keeping_none : (test : Slope → Bool) (n m : ℕ) (w : List ℕ) → Keeping test n m w w 0 0
@@ -36,7 +37,7 @@ module _ {test : Slope → Bool} {n m : ℕ} {w v : List ℕ} {i k : ℕ} (all :
       let l = h.long in
       record {
         inside = omega arith;
-        part = part-is (h.rest (2 * i) (omega arith) (omega arith)) (h.rest (2 * i + 1) (omega arith) (omega arith)) (all.sound.part i below);
+        part = part-is (h.rest (2 * i) (omega arith) (inl (omega arith))) (h.rest (2 * i + 1) (omega arith) (inl (omega arith))) (all.sound.part i below);
       }
 
   pub keeping_inside : 2 * (m + k) + 1 < length v
@@ -51,12 +52,21 @@ module _ {test : Slope → Bool} {n m : ℕ} {w v : List ℕ} {i k : ℕ} (all :
       record {
         long = length-put v (m + k) rise run ∙ h.long;
         front = record { same = λ j l. (put-alike v (m + k) rise run).same j (omega arith) ∙ h.front.same j l };
-        rest = λ j g l. put_other v (m + k) rise run j (grind arith) (grind arith) ∙ h.rest j (omega arith) l;
+        rest = further;
         kept =
             subst (λ (l : List ℕ). Kept test (i + 1) w l (k + bit t)) (sym (drop-put m v k rise run))
             (kept_more h.kept (omega (arith, keeping_inside, length-drop (2 * m) v)) keeping_stands.part
-            (ap₂ fraction (h.rest (2 * i) (omega arith) (omega arith)) (h.rest (2 * i + 1) (omega arith) (omega arith))) t e);
+            (ap₂ fraction (h.rest (2 * i) (omega arith) (inl (omega arith))) (h.rest (2 * i + 1) (omega arith) (inl (omega arith)))) t e);
       }
+    where
+      further : (j : ℕ) → 2 * (i + 1) ≤ j → (j < 2 * n) ⊎ (2 * (m + (i + 1)) ≤ j) → get_or (copied v i (m + k)) j 0 ≡ get_or w j 0
+      further j g (inl l) =
+          let few = h.kept.few in
+          let clear = all.behind in
+          put_other v (m + k) (get_or v (2 * i) 0) (get_or v (2 * i + 1) 0) j (grind arith) (grind arith) ∙ h.rest j (omega arith) (inl l)
+      further j g (inr l) =
+          let few = h.kept.few in
+          put_other v (m + k) (get_or v (2 * i) 0) (get_or v (2 * i + 1) 0) j (omega arith) (omega arith) ∙ h.rest j (omega arith) (inr (omega arith))
 
 -- ---- the rank among those that are kept
 
@@ -99,6 +109,11 @@ module _ {n r : ℕ} {w v : List ℕ} {low : Slope} {a : ℕ} (ask : Pickable n 
   module _ {high : Slope} {ys : List ℕ} {k : ℕ} (nh : Near high) (same : length ys ≡ length (behind n v)) (g : Kept (not_by (over slope_le high)) a (behind n v) ys k) where
     abbrev back : List ℕ
     back = put_mid (2 * n) (length v - 2 * n) v ys
+
+    pub front_back : Alike (2 * n) w back
+    front_back =
+        let room = ask.room in
+        alike_trans h.front (alike-take (take_put (2 * n) (length v - 2 * n) v ys (omega arith)))
 
     behind-back : behind n back ≡ ys
     behind-back =

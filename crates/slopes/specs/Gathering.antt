@@ -1,15 +1,15 @@
 -- A pivot: slopes gathered behind those at the front, and one of them picked; and what a pick says.
 -- Assumes nothing.
 use Rattle.std.specs.Prelude.{◌≡◌, refl, ◌⊎◌, ℕ, ◌+◌, ◌*◌, ◌-◌, ◌≤◌, ◌<◌, length, get_or, drop}
-use Rattle.std.proofs.Common.{sym, ap, ap₂, ◌∙◌, subst, inl, inr, eq-or-lt_of_le, arith, length-drop, get_or-drop, take_all}
+use Rattle.std.proofs.Common.{sym, ap, ap₂, ◌∙◌, subst, inl, inr, not-suc-le-zero, eq-or-lt_of_le, arith, length-drop, get_or-drop, take_all}
 use mathlib.Core.List.Memᴰ
 use mathlib.Core.List.{List, Memᴰ}
 use Rattle.rules.specs.Round.{Slope}
 use Rattle.slopes.specs.Fractions.{fraction, fraction_at, fractions, Part, Pickable, Picked}
-use Rattle.slopes.specs.Passes.{Answers, Alike, behind, copied, Copied, Roomy, Gathered, Pivoted}
+use Rattle.slopes.specs.Passes.{Listed, Answers, Alike, behind, copied, Copied, Roomy, Gathered, Pivoted}
 use Rattle.slopes.specs.Order.{level-ranked}
 use Rattle.slopes.specs.ScratchLaws.{place_of, near_of, fraction_in, fractions-alike, part-is, sound_alike, alike_trans, length-put, put-alike, put-rise, put-run}
-use Rattle.slopes.specs.PassLaws.{forward}
+use Rattle.slopes.specs.PassLaws.{fewer_listed, forward}
 
 -- ---- the slopes stand as they came
 
@@ -37,9 +37,19 @@ pub record Gathering (n : ℕ) (w v : List ℕ) (g : ℕ) : Type 0 where
   pub front : Alike (2 * n) w v
   pub copies : (k : ℕ) → k < g → Copied n w v (n + k)
 
+-- the first m still stand as they came
+pub listed_here : {n : ℕ} {w v : List ℕ} {g : ℕ} → Roomy n w → Gathering n w v g → (m : ℕ) → m ≤ n → Listed m v
+listed_here {n} all h m b =
+    let a = all.room in
+    let d = h.long in
+    fewer_listed (record { inside = omega arith; sound = sound_alike h.front all.sound }) b
+
 -- g of them gathered
 pub gathered : {n : ℕ} {w v : List ℕ} {g : ℕ} → Gathering n w v g → 1 ≤ g → 2 * g ≤ n → Gathered n w v g
 gathered h one few = record { one = one; few = few; front = h.front; copies = h.copies }
+
+pub gathering_none : (n : ℕ) (w : List ℕ) → Gathering n w w 0
+gathering_none n w = record { long = refl; front = record { same = λ j h. refl }; copies = λ k h. absurd (not-suc-le-zero h) }
 
 module _ {n : ℕ} {w v : List ℕ} {g j : ℕ} (h : Gathering n w v g) (below : j < n) (inside : 2 * (n + g) + 1 < length v) where
   abbrev gathered_next : List ℕ

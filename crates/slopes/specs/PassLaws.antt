@@ -6,13 +6,17 @@ use Rattle.std.proofs.Math.Path.{ap}
 use mathlib.Core.List.{List, [], ◌∷◌, ◌++◌, append-nil, Memᴰ}
 use Rattle.rules.specs.Lists.{those, consIf}
 use Rattle.rules.specs.Round.{Slope, slope_le}
-use Rattle.laws_ranks.specs.Counts.{bit, count, length-those, those-append}
-use Rattle.laws_ranks.specs.Ranks.{under, over}
-use Rattle.slopes.specs.Fractions.{fraction, fraction_at, fractions, put, Part, Sound, Pickable}
-use Rattle.slopes.specs.Passes.{Stands, Listed, Roomy, Kept, Parted, Alike, copied}
-use Rattle.slopes.specs.ScratchLaws.{one_more, length-fractions, near_of, fractions-alike, part-is, sound_alike, length-put, put_other, put-alike, fractions-put, sound_put, sound_none, drop-put, drop_put_before}
+use Rattle.laws_ranks.specs.Counts.{bit, count, count-append, count-le-length, count-not, length-those, those-append}
+use Rattle.laws_ranks.specs.Ranks.{HasRank, under, upto, over}
+use Rattle.slopes.specs.Fractions.{fraction, fraction_at, fractions, put, Part, Sound, Pickable, Near}
+use Rattle.slopes.specs.Passes.{Shows, Stands, Listed, Roomy, Counted, Kept, Parted, Alike, copied}
+use Rattle.slopes.specs.declared.scan.Counts.{Counts}
+use Rattle.slopes.specs.ScratchLaws.{near_part, one_more, length-fractions, near_of, fractions-alike, part-is, sound_alike, length-put, put_other, put-alike, fractions-put, sound_put, sound_none, drop-put, drop_put_before}
 
 -- ---- the words of one slope
+
+pub shows : {a b : ℕ} {k : Slope} → Part a b → k ≡ fraction a b → Shows a b k
+shows h e = record { is = e; near = subst Near (sym e) (near_part h) }
 
 -- ---- where slopes lie
 
@@ -22,12 +26,49 @@ roomy h = record { sound = h.sound; room = h.room }
 pub listed : {n : ℕ} {w : List ℕ} → Roomy n w → Listed n w
 listed all = let a = all.room in record { inside = omega arith; sound = all.sound }
 
+pub fewer_listed : {n m : ℕ} {w : List ℕ} → Listed n w → m ≤ n → Listed m w
+fewer_listed all b = let a = all.inside in record { inside = omega arith; sound = record { part = λ k i. all.sound.part k (omega arith) } }
+
 pub stands : {n : ℕ} {w : List ℕ} → Listed n w → {k : ℕ} → k < n → Stands w k
 stands all {k} h = let a = all.inside in record { inside = omega arith; part = all.sound.part k h }
 
 -- every run is above zero
 pub forward : {n r : ℕ} {w : List ℕ} → Pickable n r w → (k : Slope) → Memᴰ k (fractions n w) → pos 0 <ℤ k.run
 forward ask k m = (near_of ask.sound m).forward
+
+-- ---- counting the slopes below p and above it
+
+count_more : (test : Slope → Bool) (i : ℕ) (w : List ℕ) → count test (fractions (i + 1) w) ≡ count test (fractions i w) + bit (test (fraction_at w i))
+unfolding count
+count_more test i w = ap (count test) (one_more i w) ∙ count-append test (fractions i w) (fraction_at w i ∷ []) ∙ omega arith
+
+pub counted_none : (w : List ℕ) (p : Slope) → Counted 0 w p (record { below = 0; above = 0 })
+unfolding fractions count
+counted_none w p = record { below-is = refl; above-is = refl }
+
+module _ {i : ℕ} {w : List ℕ} {p : Slope} {c : Counts} (h : Counted i w p c) where
+  pub counted-most : (c.below ≤ i) × (c.above ≤ i)
+  counted-most =
+      let b = h.below-is in
+      let a = h.above-is in
+      let e = length-fractions i w in
+      (omega (arith, count-le-length (under slope_le p) (fractions i w)), omega (arith, count-le-length (over slope_le p) (fractions i w)))
+
+  pub counted_more : (s t : Bool) → s ≡ under slope_le p (fraction_at w i) → t ≡ over slope_le p (fraction_at w i)
+      → Counted (i + 1) w p (record { below = c.below + bit s; above = c.above + bit t })
+  counted_more s t e g =
+      record {
+        below-is = ap₂ (λ (k : ℕ) (q : Bool). k + bit q) h.below-is e ∙ sym (count_more (under slope_le p) i w);
+        above-is = ap₂ (λ (k : ℕ) (q : Bool). k + bit q) h.above-is g ∙ sym (count_more (over slope_le p) i w);
+      }
+
+  -- those that are at most p are all but those above it
+  pub upto-count : count (upto slope_le p) (fractions i w) + c.above ≡ i
+  upto-count = let a = h.above-is in omega (arith, count-not (upto slope_le p) (fractions i w), length-fractions i w)
+
+  -- the counts tell whether p has rank r
+  pub counted-rank : {r : ℕ} → c.below < r → r + c.above ≤ i → HasRank slope_le r (fractions i w) p
+  counted-rank low high = let b = h.below-is in record { fewer = omega arith; enough = omega (arith, upto-count) }
 
 -- ---- keeping the slopes that pass a test: of the first i those that pass, k of them
 
@@ -106,6 +147,9 @@ module _ {n : ℕ} {w v : List ℕ} {p : Slope} {i b a : ℕ} (all : Roomy n w) 
   pub stands_here : Stands v i
   stands_here = let r = all.room in let l = h.long in record { inside = omega arith; part = part-here }
 
+  pub inside_above : 2 * (n + a) + 1 < length v
+  inside_above = let r = all.room in let l = h.long in let f = h.above_kept.few in omega arith
+
   -- slope i is stored among those above, and then among those below
   abbrev once : List ℕ
   once = copied v i (n + a)
@@ -118,6 +162,9 @@ module _ {n : ℕ} {w v : List ℕ} {p : Slope} {i b a : ℕ} (all : Roomy n w) 
 
   once_long : length once ≡ length v
   once_long = length-put v (n + a) rise_here run_here
+
+  pub inside_once : 2 * i + 1 < length once
+  inside_once = let r = all.room in let l = h.long in omega (arith, once_long)
 
   pub inside_below : 2 * b + 1 < length once
   inside_below = let r = all.room in let l = h.long in omega (arith, once_long, h.below-kept.few)

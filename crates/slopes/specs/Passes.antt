@@ -4,6 +4,7 @@ use Rattle.std.specs.Prelude.{◌≡◌, Bool, ℕ, ◌+◌, ◌-◌, ◌*◌, �
 use mathlib.Core.List.{List, Memᴰ}
 use Rattle.rules.specs.Lists.{those}
 use Rattle.rules.specs.Round.{Slope, slope_le}
+use Rattle.laws_ranks.specs.Counts.{count}
 use Rattle.laws_ranks.specs.Ranks.{HasRank, under, over}
 use Rattle.laws_ranks.specs.Least.{LeastOut}
 use Rattle.slopes.specs.Fractions.{fraction, fractions, put, Part, Sound, Pickable, Near}
@@ -38,6 +39,11 @@ pub record Roomy (n : ℕ) (w : List ℕ) : Type 0 where
 -- the same words below m
 pub record Alike (m : ℕ) (w v : List ℕ) : Type 0 where
   pub same : (j : ℕ) → j < m → get_or v j 0 ≡ get_or w j 0
+
+-- how many of the first n lie below p, and how many above
+pub record Counted (n : ℕ) (w : List ℕ) (p : Slope) (c : code.Counts) : Type 0 where
+  pub below-is : c.below ≡ count (under slope_le p) (fractions n w)
+  pub above-is : c.above ≡ count (over slope_le p) (fractions n w)
 
 -- of the first n those that pass the test, k of them, at the front
 pub record Kept (test : Slope → Bool) (n : ℕ) (w v : List ℕ) (k : ℕ) : Type 0 where

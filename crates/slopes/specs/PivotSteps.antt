@@ -47,10 +47,11 @@ module _ {n r : ℕ} {w : List ℕ} {p : Slope} (ask : Pickable n r w) (m : Mem�
       (omega arith)
       (subst (λ (j : ℕ). HasRank slope_le (r - j) (those (over slope_le p) slopes) x) e b.has-rank))
 
-  pub narrowed_none : {v u : List ℕ} {b a : ℕ} → Kept (under slope_le p) n w v b → Kept (over slope_le p) n w u a → b < r → r ≤ n - a
+  -- the counts alone tell that p has the rank
+  pub narrowed_none : {b a : ℕ} → b ≡ count (under slope_le p) slopes → a ≡ count (over slope_le p) slopes → b < r → r ≤ n - a
       → Answers r slopes p
   narrowed_none lower upper low high =
       record {
         isIn = m;
-        has-rank = record { fewer = omega (arith, kept-count lower); enough = omega (arith, upto-count upper) };
+        has-rank = record { fewer = omega arith; enough = omega (arith, count-not (upto slope_le p) slopes, length-fractions n w) };
       }

@@ -74,6 +74,11 @@ module _ {n : ℕ} {w v : List ℕ} {i : ℕ} {p f : Fraction} (all : Listed n w
   lifting_more true e = lifted_by h.part next_part (out_more slope_order up h.out (near_part next_part).forward true e)
   lifting_more false e = lifted_by next_part h.part (out_more slope_order up h.out (near_part next_part).forward false e)
 
+pub lifting_all : (n : ℕ) {w v : List ℕ} {i : ℕ} {p : Fraction} → i + 1 ≡ n → Lifting w v i p → Lifted n w (held p) v
+lifting_all n {w} {v} {i} {p} e h =
+    let k : n - 1 ≡ i = omega arith in
+    record { sound = rw k h.sound; out = rw (k, ← e) h.out }
+
 -- the rank before is asked among one slope fewer
 pub asked_next : {m s : ℕ} {v u : List ℕ} {p : Slope} → Pickable m s v → Lifted m v p u → length u ≡ length v → 1 < s → Pickable (m - 1) (s - 1) u
 asked_next t h same more =

@@ -9,6 +9,7 @@ use crate::reach::{Ring, too_far};
 use crate::writing::write_sum;
 use envelope::test::two_rings;
 use samples::refusals::{Reason, Refusal};
+use samples::words::clear;
 
 mod follow;
 mod reach;
@@ -33,7 +34,7 @@ pub fn sum(
 {
     two_rings(east, north, east2, north2, scratch)?;
     if east.is_empty() || east2.is_empty() {
-        scratch.fill(0);
+        clear(scratch);
         return Ok(0);
     }
     let first = Ring { east, north };

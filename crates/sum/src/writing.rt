@@ -14,6 +14,7 @@ use halves::scan;
 use samples::refusals::{Reason, Refusal};
 use samples::streams::same;
 use samples::tests::too_short;
+use samples::words::clear;
 use std::ops::Range;
 
 // The places of the half that goes back that are not left out.
@@ -79,7 +80,7 @@ pub fn write_sum<'a>(
     let corners = there.count();
     let part = left_in(there, back);
     let rest = part.end - part.start;
-    scratch.fill(0);
+    clear(scratch);
     if too_short(out_east.len(), out_north.len(), corners + rest) {
         return Err(Reason::OutputShort.into());
     }

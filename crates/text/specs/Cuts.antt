@@ -1,15 +1,16 @@
 -- A text cut at a byte, by the first place that has the byte; and the first place in a text's front.
 -- Assumes nothing.
-use Rattle.std.specs.Prelude.{◌≡◌, Bool, Some, None, eqb, ltb, take, drop}
+use Rattle.std.specs.Prelude.{◌≡◌, Bool, Some, None, eqb, ltb, get_or, take, drop}
 use Rattle.std.specs.List.{position, position_or_len}
 use Rattle.std.proofs.Math.Path.{refl}
-use Rattle.std.proofs.Common.{ap, add-one, ltb-true, ltb-false}
+use Rattle.std.proofs.Common.{ap, ◌∙◌, add-one, length-drop, drop-cons, drop-drop, ltb-true, ltb-false}
 use Rattle.std.proofs.lemmas.List.Recursion.{is_position_or_len}
 use Rattle.std.proofs.Math.Bool.{true, false, cond}
 use mathlib.Core.List.{List, [], ◌∷◌}
-use Prim.Native.Nat.{ℕ, zero, suc, ◌+◌, ◌≤◌, ◌<◌}
+use Prim.Native.Nat.{ℕ, zero, suc, ◌+◌, ◌-◌, ◌≤◌, ◌<◌}
 use native.Mathlib.Omega.{arith}
 use Rattle.std.proofs.Math.ListN.{length}
+use borrow.Author.Tests.{eq-eqb, ne_eqb}
 use Rattle.rules.specs.Lists.{first_place}
 use Rattle.rules.specs.Program.{unbroken, broken, longer, cut_at}
 
@@ -57,6 +58,28 @@ module _ (x : ℕ) where
       go true l r = absurd (omega arith)
       go false l r = ap (longer b) (r (omega arith))
 
+  -- the same from a place of a text on, where `end` is the first place from it on that has the byte
+  module _ (bs : List ℕ) (at end : ℕ) (first : end ≡ at + first_place (is x) (drop at bs)) where
+    pub cut-at-end : end < length bs → cut_at x (drop at bs) ≡ broken (take (end - at) (drop at bs)) (drop (end + 1) bs)
+    cut-at-end h =
+        let l = length-drop at bs in
+        let k : end - at ≡ first_place (is x) (drop at bs) = omega arith in
+        let e : at + suc (first_place (is x) (drop at bs)) ≡ end + 1 = omega arith in
+        cut_found (drop at bs) (omega arith) ∙ rw (k, drop-drop, e) refl
+
+    pub cut_nowhere : at ≤ length bs → end ≡ length bs → cut_at x (drop at bs) ≡ unbroken (drop at bs)
+    cut_nowhere h e = cut_none (drop at bs) (omega (arith, length-drop at bs))
+
+  -- looking for the byte from place to place
+  module _ (bs : List ℕ) (i : ℕ) (inside : i < length bs) where
+    pub first-here : get_or bs i 0 ≡ x → first_place (is x) (drop i bs) ≡ 0
+    unfolding first_place
+    first-here e = rw (drop-cons bs i 0 inside, eq-eqb (get_or bs i 0) x e) refl
+
+    pub first_later : (get_or bs i 0 ≡ x → ⊥) → first_place (is x) (drop i bs) ≡ suc (first_place (is x) (drop (i + 1) bs))
+    unfolding first_place
+    first_later e = rw (drop-cons bs i 0 inside, ne_eqb (get_or bs i 0) x e, add-one) refl
+
   -- the same by what a search for the byte finds
   first-place-is : (bs : List ℕ) → first_place (is x) bs ≡ position_or_len (is x) bs
   unfolding first_place
@@ -73,8 +96,8 @@ module _ (x : ℕ) where
           rw (add-one, ← q) (cut_found bs (omega (arith, q, p, ltb-true (position_or_len (is x) bs) (length bs) h)))
       go false h e = let z : ◌≡◌ {A = ℕ} 0 1 = cc in absurd (omega arith)
 
-  pub cut_nowhere : (bs : List ℕ) → position (is x) bs ≡ None → cut_at x bs ≡ unbroken bs
-  cut_nowhere bs e = go (ltb (position_or_len (is x) bs) (length bs)) refl e
+  pub cut_without_place : (bs : List ℕ) → position (is x) bs ≡ None → cut_at x bs ≡ unbroken bs
+  cut_without_place bs e = go (ltb (position_or_len (is x) bs) (length bs)) refl e
     where
       go : (t : Bool) → ltb (position_or_len (is x) bs) (length bs) ≡ t → cond t (Some (position_or_len (is x) bs)) None ≡ None →
           cut_at x bs ≡ unbroken bs

@@ -93,6 +93,16 @@ module _ (bs : List ℕ) where
 
 -- ---- a number
 
+pub number_empty : (bs : List ℕ) → length bs ≡ 0 → number bs ≡ none
+unfolding number
+number_empty [] h = refl
+number_empty (b ∷ bs) h = absurd (omega arith)
+
+pub number-minus : (bs : List ℕ) → 0 < length bs → get_or bs 0 0 ≡ minus → number bs ≡ negated (unsigned (drop 1 bs))
+unfolding number
+number-minus [] h e = absurd (omega arith)
+number-minus (b ∷ bs) h e = rw (eq-eqb b minus e) refl
+
 -- a minus stripped off, where there is one
 pub number_stripped : (bs digits : List ℕ) → pointwise eqb (take 1 bs) (minus ∷ []) ≡ true → digits ≡ drop 1 bs → number bs ≡ negated (unsigned digits)
 unfolding number

@@ -1,8 +1,8 @@
 -- Corners printed one after the other, each as its own line.
 -- Assumes nothing.
-use Rattle.std.specs.Prelude.{◌≡◌, refl, ◌⊎◌, true, false, ℕ, ◌+◌, ◌≤◌, ℤ, pos, negsuc, nat_abs, length}
+use Rattle.std.specs.Prelude.{◌≡◌, refl, ◌⊎◌, true, false, ℕ, suc, ◌+◌, ◌≤◌, ◌<◌, ℤ, pos, negsuc, nat_abs, length, get_or, drop}
 use Rattle.std.proofs.Math.Path.{sym, ap}
-use Rattle.std.proofs.Common.{◌∙◌, ap₂, inl, inr, true≢false, add-zero, arith, ltb-true, length-append}
+use Rattle.std.proofs.Common.{◌∙◌, ap₂, inl, inr, true≢false, add-zero, add-one, arith, ltb-true, length-append, drop-cons}
 use mathlib.Core.List.{List, [], ◌∷◌, ◌++◌, append_assoc, append-nil}
 use Rattle.std.specs.Int.Signed.{lt_z}
 use Rattle.std.proofs.Math.Seq.{append_snoc}
@@ -44,6 +44,17 @@ no_corners [] ns h = refl
 no_corners (e ∷ es) [] h = refl
 no_corners (e ∷ es) (n ∷ ns) (inl h) = absurd (omega arith)
 no_corners (e ∷ es) (n ∷ ns) (inr h) = absurd (omega arith)
+
+-- the corners from a place on: the line of the one that stands there, then the rest
+pub corner-here : (es ns : List ℤ) (i : ℕ) → i < length es → i < length ns →
+    printed_corners (streams (drop i es) (drop i ns))
+    ≡ printed_corner (get_or es i (pos 0)) (get_or ns i (pos 0)) ++ printed_corners (streams (drop (i + 1) es) (drop (i + 1) ns))
+unfolding printed_corners streams
+corner-here es ns i h g =
+    let e = get_or es i (pos 0) in
+    let n = get_or ns i (pos 0) in
+    rw (drop-cons es i (pos 0) h, drop-cons ns i (pos 0) g, add-one)
+    (sym (append_snoc (printed_whole e ++ (space ∷ printed_whole n)) newline (printed_corners (streams (drop (suc i) es) (drop (suc i) ns)))))
 
 -- ---- the lines put so far, of all corners but those that are left
 

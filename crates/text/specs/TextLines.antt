@@ -1,14 +1,16 @@
 -- A text read line by line: what the lines read so far gave, and what that says of the whole text.
 -- Assumes nothing.
 use Rattle.std.proofs.Math.Path.{◌≡◌, refl}
-use Rattle.std.proofs.Common.{sym, ap, ◌∙◌, append_assoc, append-nil, add-one, arith, length-append}
-use Rattle.std.specs.Prelude.{true, ◌||◌, List, [], ◌∷◌, ◌++◌, ℕ, zero, suc, ◌+◌, ◌-◌, ◌≤◌, ◌<◌, ltb, ℤ, length}
+use Rattle.std.proofs.Common.{sym, ap, ◌∙◌, append_assoc, append-nil, add-one, arith, length-append, length-drop, drop-drop, ltb-true, ltb-false}
+use Rattle.std.specs.Prelude.{true, ◌||◌, List, [], ◌∷◌, ◌++◌, ℕ, zero, suc, ◌+◌, ◌-◌, ◌≤◌, ◌<◌, Bool, false, ltb, ℤ, length, take, drop}
 use Rattle.std.proofs.Math.Option.{Option, none, some}
 use borrow.Author.Tests.{le-ltb}
+use Rattle.rules.specs.Lists.{first_place}
 use Rattle.rules.specs.Streams.{Stream}
 use Rattle.rules.specs.Refusals.{Answer, refused, done}
 use Rattle.rules.specs.Entries.{counted}
 use Rattle.rules.specs.Program.{Cut, unbroken, broken, cut_at, newline, line, most_lines, with_sample, first_line, text, samples}
+use Rattle.text.specs.Cuts.{is, cut_found, cut_none, first-place-within}
 use Rattle.text.specs.TextAnswers.{with_room, samples_answer, bad_line, good_line, before_rest, next_line, Fit}
 
 -- what a text's rest gives, after the samples before it
@@ -27,10 +29,32 @@ first-line-none [] h = refl
 first-line-none (b ∷ bs) h = absurd (omega arith)
 
 -- a good line has its newline
-not_empty : (bs : List ℕ) {s : Stream} {rest : List ℕ} → next_line (cut_at newline bs) ≡ good_line s rest → 0 < length bs
+pub not_empty : (bs : List ℕ) {s : Stream} {rest : List ℕ} → next_line (cut_at newline bs) ≡ good_line s rest → 0 < length bs
 unfolding cut_at
 not_empty [] e = let z : ◌≡◌ {A = ℕ} 0 1 = cc in absurd (omega arith)
 not_empty (b ∷ bs) e = omega arith
+
+-- what comes after a good line is the end of the text that begins with it
+rest_is : (bs : List ℕ) {s : Stream} {rest : List ℕ} → next_line (cut_at newline bs) ≡ good_line s rest →
+    (k : ℕ) × (k < length bs) × (rest ≡ drop (suc k) bs)
+unfolding cut_at
+rest_is [] e = let z : ◌≡◌ {A = ℕ} 0 1 = cc in absurd (omega arith)
+rest_is (b ∷ bs) {s} {rest} e = go (ltb (first_place (is newline) (b ∷ bs)) (length (b ∷ bs))) refl
+  where
+    k : ℕ
+    k = first_place (is newline) (b ∷ bs)
+
+    after_cut : (o : Option Stream) (r : List ℕ) → before_rest o r ≡ good_line s rest → rest ≡ r
+    after_cut none r f = let z : ◌≡◌ {A = ℕ} 0 1 = cc in absurd (omega arith)
+    after_cut (some t) r f = cc
+
+    go : (t : Bool) → ltb k (length (b ∷ bs)) ≡ t → (k : ℕ) × (k < length (b ∷ bs)) × (rest ≡ drop (suc k) (b ∷ bs))
+    go true h =
+        let l = ltb-true k (length (b ∷ bs)) h in
+        (k, l, after_cut (line (take k (b ∷ bs))) (drop (suc k) (b ∷ bs)) (sym (ap next_line (cut_found newline (b ∷ bs) l)) ∙ e))
+    go false h =
+        let f = sym (ap next_line (cut_none newline (b ∷ bs) (omega (arith, ltb-false k (length (b ∷ bs)) h, first-place-within (is newline) (b ∷ bs))))) ∙ e in
+        let z : ◌≡◌ {A = ℕ} 0 1 = cc in absurd (omega arith)
 
 pub text_bad : (room i : ℕ) (c : Cut) → next_line c ≡ bad_line → text (suc room) i (some c) ≡ refused 15 i
 unfolding text
@@ -72,12 +96,16 @@ text-end (suc room) i = refl
 
 -- so many lines, up to a rest, gave these samples: what the text gives is what its rest gives, after them
 pub record Passed (bs rest : List ℕ) (count : ℕ) (xs : List Stream) : Type 0 where
+  pub at : ℕ
+  pub within : at ≤ length bs
+  pub here : rest ≡ drop at bs
+  pub few : count ≤ most_lines
   pub many : length xs ≡ count
   pub so_far : samples bs ≡ after xs (text (most_lines - count) (suc count) (first_line rest))
 
 pub passed_none : (bs : List ℕ) → Passed bs bs 0 []
 unfolding samples
-passed_none bs = record { many = refl; so_far = sym (after_none (text most_lines 1 (first_line bs))) }
+passed_none bs = record { at = 0; within = omega arith; here = refl; few = omega arith; many = refl; so_far = sym (after_none (text most_lines 1 (first_line bs))) }
 
 module _ {bs rest : List ℕ} {count : ℕ} {xs : List Stream} (p : Passed bs rest count xs) where
   pub passed_all : length rest ≡ 0 → samples bs ≡ done xs
@@ -98,7 +126,11 @@ module _ {bs rest : List ℕ} {count : ℕ} {xs : List Stream} (p : Passed bs re
         ∙ rw (first-line-some rest has, left, text_bad (most_lines - (count + 1)) (suc count) (cut_at newline rest) e, add-one) refl
 
     pub passed_more : (s : Stream) (next : List ℕ) → next_line (cut_at newline rest) ≡ good_line s next → Passed bs next (count + 1) (xs ++ (s ∷ []))
-    passed_more s next e = record {
+    passed_more s next e = let r = rest_is rest e in record {
+      at = p.at + suc r.0;
+      within = omega (arith, r.1, p.within, ap length p.here, length-drop p.at bs);
+      here = r.2 ∙ ap (drop (suc r.0)) p.here ∙ rw drop-drop refl;
+      few = omega arith;
       many = length-append xs (s ∷ []) ∙ omega (arith, p.many);
       so_far =
           p.so_far
@@ -128,16 +160,35 @@ module _ {bs rest : List ℕ} {count : ℕ} {xs all : List Stream} (p : Passed b
           let f : xs ++ (y ∷ ys) ≡ all = cc in
           absurd (omega (arith, n, p.many, ap length (sym f), length-append xs (y ∷ ys)))
 
-  -- fewer are followed by a good line
-  pub never_bad : count < length all → count < most_lines → next_line (cut_at newline rest) ≡ bad_line → ⊥
-  never_bad few room e = go (length rest) refl
+  pub count-within : count ≤ length all
+  count-within = go (text (most_lines - count) (suc count) (first_line rest)) (sym p.so_far ∙ good)
     where
-      go : (n : ℕ) → length rest ≡ n → ⊥
+      go : (y : Answer (List Stream)) → after xs y ≡ done all → count ≤ length all
+      go (refused k q) e = absurd (not_done e)
+      go (done ys) e =
+          let f : xs ++ ys ≡ all = cc in
+          omega (arith, p.many, ap length (sym f), length-append xs ys)
+
+  pub more_room : 0 < length rest → count < most_lines
+  more_room has = go (most_lines - count) refl
+    where
+      go : (m : ℕ) → most_lines - count ≡ m → count < most_lines
+      go zero e = absurd (not_done (sym (passed_over p has (omega (arith, p.few))) ∙ good))
+      go (suc m) e = omega arith
+
+  pub never_bad : 0 < length rest → next_line (cut_at newline rest) ≡ bad_line → ⊥
+  never_bad has e = not_done (sym (passed_bad p (more_room has) has e) ∙ good)
+
+  -- fewer than all are followed by a line
+  pub line-left : count < length all → 0 < length rest
+  line-left h = go (length rest) refl
+    where
+      go : (n : ℕ) → length rest ≡ n → 0 < length rest
       go zero q =
           let f : samples bs ≡ done xs = passed_all p q in
           let g : xs ≡ all = cc in
-          omega (arith, p.many, ap length g)
-      go (suc n) q = not_done (sym (passed_bad p room (omega arith) e) ∙ good)
+          absurd (omega (arith, p.many, ap length g))
+      go (suc n) q = omega arith
 
 -- ---- at most so many samples as lines
 

@@ -7,9 +7,9 @@ use Rattle.rules.specs.Lists.{written}
 use Rattle.rules.specs.Streams.{Stream}
 use Rattle.rules.specs.Refusals.{output_after}
 use Rattle.rules.specs.Entries.{easts, norths}
-use Rattle.rules.specs.Program.{cut_at, newline, most_lines}
+use Rattle.rules.specs.Program.{cut_at, newline}
 use Rattle.text.specs.TextAnswers.{samples_answer, next_line, bad_line, good_line, Fit}
-use Rattle.text.specs.TextLines.{Passed, passed_none, passed_more, same_all, never_bad, samples_few, fit_answer}
+use Rattle.text.specs.TextLines.{Passed, passed_none, passed_more, passed_all, same_all, count-within, more_room, never_bad, line-left, not_empty, fit_answer}
 
 module _ {A : Type 0} where
   -- one more item, after the result so far
@@ -51,34 +51,57 @@ module _
     (f : Fit bs n es₀ ns₀)
     (w : Writing bs es₀ ns₀ rest count es ns)
   where
-    pub room : count < n → count < most_lines
-    room h = omega (arith, f.many, samples_few bs f.all f.good)
+    so_many : length w.so_far ≤ length f.all
+    so_many = omega (arith, w.passed.many, count-within w.passed f.good)
 
     pub line_comes : count < n → next_line (cut_at newline rest) ≡ bad_line → ⊥
-    line_comes h e = never_bad w.passed f.good (omega (arith, f.many)) (room h) e
+    line_comes h e = never_bad w.passed f.good (line-left w.passed f.good (omega (arith, f.many))) e
 
-    pub east-length : count ≤ n → length es ≡ length es₀
-    east-length h = part_length (λ s. s.east) w.so_far es₀ es w.east_is (omega (arith, w.passed.many, f.east_room))
+    pub east-length : length es ≡ length es₀
+    east-length = part_length (λ s. s.east) w.so_far es₀ es w.east_is (omega (arith, so_many, f.many, f.east_room))
 
-    pub north-length : count ≤ n → length ns ≡ length ns₀
-    north-length h = part_length (λ s. s.north) w.so_far ns₀ ns w.north_is (omega (arith, w.passed.many, f.north_room))
+    pub north-length : length ns ≡ length ns₀
+    north-length = part_length (λ s. s.north) w.so_far ns₀ ns w.north_is (omega (arith, so_many, f.many, f.north_room))
 
-    pub east_after : count ≡ n → es ≡ output_after easts (samples_answer bs es₀ ns₀) es₀
-    east_after h =
-        w.east_is
-        ∙ rw (fit_answer bs es₀ ns₀ f) (ap (λ (xs : List Stream). written (easts xs) es₀) (same_all w.passed f.good (h ∙ f.many)))
+    module _ (same : w.so_far ≡ f.all) where
+      east-same : es ≡ output_after easts (samples_answer bs es₀ ns₀) es₀
+      east-same = w.east_is ∙ rw (fit_answer bs es₀ ns₀ f) (ap (λ (xs : List Stream). written (easts xs) es₀) same)
 
-    pub north_after : count ≡ n → ns ≡ output_after norths (samples_answer bs es₀ ns₀) ns₀
-    north_after h =
-        w.north_is
-        ∙ rw (fit_answer bs es₀ ns₀ f) (ap (λ (xs : List Stream). written (norths xs) ns₀) (same_all w.passed f.good (h ∙ f.many)))
+      north-same : ns ≡ output_after norths (samples_answer bs es₀ ns₀) ns₀
+      north-same = w.north_is ∙ rw (fit_answer bs es₀ ns₀ f) (ap (λ (xs : List Stream). written (norths xs) ns₀) same)
+
+    -- once nothing is left of the text
+    same-all : length rest ≡ 0 → w.so_far ≡ f.all
+    same-all h =
+        let read = passed_all w.passed h in
+        let good = f.good in
+        cc
+
+    pub east_after : length rest ≡ 0 → es ≡ output_after easts (samples_answer bs es₀ ns₀) es₀
+    east_after h = east-same (same-all h)
+
+    pub north_after : length rest ≡ 0 → ns ≡ output_after norths (samples_answer bs es₀ ns₀) ns₀
+    north_after h = north-same (same-all h)
+
+    -- once as many are written as were counted
+    pub east-counted : count ≡ n → es ≡ output_after easts (samples_answer bs es₀ ns₀) es₀
+    east-counted h = east-same (same_all w.passed f.good (h ∙ f.many))
+
+    pub north-counted : count ≡ n → ns ≡ output_after norths (samples_answer bs es₀ ns₀) ns₀
+    north-counted h = north-same (same_all w.passed f.good (h ∙ f.many))
 
     -- one more line
-    pub writing_more : (s : Stream) (next : List ℕ) → next_line (cut_at newline rest) ≡ good_line s next → count < n →
-        Writing bs es₀ ns₀ next (count + 1) (set es count s.east) (set ns count s.north)
-    writing_more s next good h = record {
-      so_far = w.so_far ++ (s ∷ []);
-      passed = passed_more w.passed (room h) s next good;
-      east_is = part_more (λ s. s.east) w.so_far es₀ es w.east_is s count w.passed.many (omega (arith, f.east_room));
-      north_is = part_more (λ s. s.north) w.so_far ns₀ ns w.north_is s count w.passed.many (omega (arith, f.north_room));
-    }
+    module _ (s : Stream) (next : List ℕ) (good : next_line (cut_at newline rest) ≡ good_line s next) where
+      further : Passed bs next (count + 1) (w.so_far ++ (s ∷ []))
+      further = passed_more w.passed (more_room w.passed f.good (not_empty rest good)) s next good
+
+      pub room : count < length f.all
+      room = omega (arith, count-within further f.good)
+
+      pub writing_more : Writing bs es₀ ns₀ next (count + 1) (set es count s.east) (set ns count s.north)
+      writing_more = record {
+        so_far = w.so_far ++ (s ∷ []);
+        passed = further;
+        east_is = part_more (λ s. s.east) w.so_far es₀ es w.east_is s count w.passed.many (omega (arith, room, f.many, f.east_room));
+        north_is = part_more (λ s. s.north) w.so_far ns₀ ns w.north_is s count w.passed.many (omega (arith, room, f.many, f.north_room));
+      }

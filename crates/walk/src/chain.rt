@@ -87,13 +87,15 @@ pub fn chain(rings: Rings, lower: bool, a: Way, b: Way, w: &mut [u32]) -> usize
     requires { Ways rings.east.now rings.north.now rings.east2.now rings.north2.now lower a b × (a.count + b.count ≤ length w.old) }
     ensures { Chained rings.entry.east.now rings.entry.north.now rings.entry.east2.now rings.entry.north2.now lower a b w.new result }
 {
-    // of k corners drawn, i are the first way's
+    // of k corners drawn, i are the first way's and j the second's
     let mut i = 0;
+    let mut j = 0;
     let mut top = 0;
-    for k in 0..a.count + b.count {
-        let x = draw(rings, lower, a, b, i, k - i);
+    for _k in 0..a.count + b.count {
+        let x = draw(rings, lower, a, b, i, j);
         top = taken(rings, lower, w, top, x.place);
         i = x.first;
+        j = x.second;
     }
     top
 }

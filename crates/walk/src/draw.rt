@@ -1,7 +1,7 @@
 // Two ways walked together, one over corners of each ring, both from west to east: the next corner of the way that is further west is drawn.
 // The side and the two ways are no part of Rings: one struct of rings serves both sides, and closing, which has no ways.
 
-ghost use Rattle.std.specs.Prelude.{◌≡◌, suc, ◌+◌, ◌-◌, ◌<◌};
+ghost use Rattle.std.specs.Prelude.{◌≡◌, ◌<◌};
 ghost use Rattle.walk.specs.Ways.{way_place, Inside, Ways, Stands, Second, Drawn};
 
 use crate::corners::{Rings, west};
@@ -13,11 +13,12 @@ pub struct Way {
     pub count: usize,
 }
 
-// A step of the walk: the place that is drawn, and how many corners of the first way are drawn with it.
+// A step of the walk: the place that is drawn, and how many corners of each way are drawn with it.
 #[derive(Clone, Copy)]
 pub struct Step {
     pub place: usize,
     pub first: usize,
+    pub second: usize,
 }
 
 impl Way {
@@ -57,16 +58,18 @@ fn second_next(rings: Rings, lower: bool, a: Way, b: Way, i: usize, j: usize) ->
 pub fn draw(rings: Rings, lower: bool, a: Way, b: Way, i: usize, j: usize) -> Step
     requires { Ways rings.east.now rings.north.now rings.east2.now rings.north2.now lower a b × Stands a b i j }
     ensures { Drawn rings.entry.east.now rings.entry.north.now rings.entry.east2.now rings.entry.north2.now lower a b i j
-        result.place result.first (suc (i + j) - result.first) }
+        result.place result.first result.second }
 {
     if second_next(rings, lower, a, b, i, j) {
         return Step {
             place: rings.east.len() + b.place(lower, rings.east2.len(), j),
             first: i,
+            second: j + 1,
         };
     }
     Step {
         place: a.place(lower, rings.east.len(), i),
         first: i + 1,
+        second: j,
     }
 }

@@ -1,45 +1,78 @@
--- The tests of both rings, then the last test.
-use Rattle.std.specs.Prelude.{◌≡◌, refl, List, [], ◌∷◌, ℕ, ◌+◌, ◌*◌, ◌≤◌, ℤ, length, Err}
+-- Each return is the rules' tests in the order in which the code makes them.
+use Rattle.std.specs.Prelude.{◌≡◌, refl, List, [], ◌∷◌, ℤ, Err}
 use Rattle.std.proofs.Common.{sym, rules, arith}
-use Rattle.rules.specs.Streams.{streams}
+use Rattle.rules.specs.Streams.{Stream, streams}
 use Rattle.rules.specs.Use.{join}
-use Rattle.rules.specs.Refusals.{Answer, done, unless}
-use Rattle.rules.specs.Entries.{two_ring_tests, join_answer}
-use Rattle.samples.specs.InOrder.{then_answer, answer_by, quiet-number}
-use Rattle.envelope.specs.TwoRings.{Rings, two_passed}
-use Rattle.closing.specs.RingPromise.{unless_short, outcome_as, outcome_refused}
-use Rattle.rules.specs.Entries.{ring_short}
+use Rattle.rules.specs.Refusals.{Test}
+use Rattle.rules.specs.Entries.{ring_short, join_answer}
+use Rattle.samples.specs.InOrder.{quiet-number}
+use Rattle.envelope.specs.Tests.{alone_tests, sound}
+use Rattle.envelope.specs.TwoRings.{first_refused, second_refused, many_refused, scratch_refused, all_pass}
+use Rattle.closing.specs.RingPromise.{outcome_as, outcome_refused}
 use Rattle.join.proofs.join.Goals as goal
 
-module _ (es ns fs ms oe on : List ℤ) (scratch : List ℕ) where
-  -- what the entry answers, by what the tests of both rings said
-  after : {t : Answer (Unit {0})} → t ≡ unless (two_ring_tests es ns fs ms scratch) tt
-      → join_answer es ns fs ms oe on scratch ≡ then_answer t (unless_short oe on (join (streams es ns) (streams fs ms)))
-  unfolding join_answer
-  after e =
-      let r = join (streams es ns) (streams fs ms) in
-      answer_by (two_ring_tests es ns fs ms scratch) (ring_short oe on r ∷ []) r tt (sym e)
+-- the join, and the last test
+abbrev joined : List ℤ → List ℤ → List ℤ → List ℤ → List Stream
+joined east north east2 north2 = join (streams east north) (streams east2 north2)
 
-  -- two rings that passed them, and the room in scratch
-  rings : done (tt {0}) ≡ unless (two_ring_tests es ns fs ms scratch) tt → Rings es ns fs ms × (16 * (length es + length fs) + 64 ≤ length scratch)
-  rings e = two_passed es ns fs ms scratch tt (sym e)
+abbrev own : List ℤ → List ℤ → List Stream → List Test
+own out_east out_north r = ring_short out_east out_north r ∷ []
 
-pub returns-in_err-two_rings : goal.returns-in_err-two_rings
-returns-in_err-two_rings c =
+pub returns-in_err-of_ring : goal.returns-in_err-of_ring
+unfolding join_answer
+returns-in_err-of_ring c =
     let a = c.args in
-    let said = c.in_err-two_rings.ensures in
-    let e : c.from_residual.result ≡ Err c.in_err-two_rings.field-0.0 = search rules in
-    rw e (outcome_refused (after a.east.now a.north.now a.east2.now a.north2.now a.out_east.now a.out_north.now a.scratch.now said) refl
-    (quiet-number tt (two_ring_tests a.east.now a.north.now a.east2.now a.north2.now a.scratch.now) tt (sym said)))
+    let r = joined a.east.now a.north.now a.east2.now a.north2.now in
+    let v = sym c.in_err-of_ring.ensures in
+    let e : c.from_residual.result ≡ Err c.in_err-of_ring.field-0.0 = search rules in
+    rw e (outcome_refused
+    (first_refused a.east.now a.north.now a.east2.now a.north2.now a.scratch.now (own a.out_east.now a.out_north.now r) r v) refl
+    (quiet-number tt (alone_tests a.east.now a.north.now) tt v))
+
+pub returns-in_err-of_ring-2 : goal.returns-in_err-of_ring-2
+unfolding join_answer
+returns-in_err-of_ring-2 c =
+    let a = c.args in
+    let r = joined a.east.now a.north.now a.east2.now a.north2.now in
+    let v = sym c.in_err-of_ring-2.ensures in
+    let e : c.from_residual-in_err-of_ring-2.result ≡ Err c.in_err-of_ring-2.field-0.0 = search rules in
+    rw e (outcome_refused
+    (second_refused a.east.now a.north.now a.east2.now a.north2.now a.scratch.now (own a.out_east.now a.out_north.now r) r (sym c.in_ok-of_ring.ensures) v) refl
+    (quiet-number tt (alone_tests a.east2.now a.north2.now) tt v))
+
+pub returns-then-both-gt-MOST : goal.returns-then-both-gt-MOST
+unfolding join_answer
+returns-then-both-gt-MOST c =
+    let a = c.args in
+    let r = joined a.east.now a.north.now a.east2.now a.north2.now in
+    outcome_refused
+    (many_refused a.east.now a.north.now a.east2.now a.north2.now a.scratch.now (own a.out_east.now a.out_north.now r) r (sym c.in_ok-of_ring.ensures)
+    (sym c.in_ok-of_ring-2.ensures) (omega arith))
+    (search rules) refl
+
+pub returns-then-scratch-both : goal.returns-then-scratch-both
+unfolding join_answer
+returns-then-scratch-both c =
+    let a = c.args in
+    let r = joined a.east.now a.north.now a.east2.now a.north2.now in
+    outcome_refused
+    (scratch_refused a.east.now a.north.now a.east2.now a.north2.now a.scratch.now (own a.out_east.now a.out_north.now r) r (sym c.in_ok-of_ring.ensures)
+    (sym c.in_ok-of_ring-2.ensures) (omega arith) (omega arith))
+    (search rules) refl
 
 pub write_join-requires : goal.write_join-requires
 write_join-requires c =
     let a = c.args in
-    let p = rings a.east.now a.north.now a.east2.now a.north2.now a.out_east.now a.out_north.now a.scratch.now c.in_ok-two_rings.ensures in
-    (p.0, omega (arith, p.1))
+    let one = sound a.east.now a.north.now tt (sym c.in_ok-of_ring.ensures) in
+    let two = sound a.east2.now a.north2.now tt (sym c.in_ok-of_ring-2.ensures) in
+    (record { first = one; second = two; few = omega arith }, omega arith)
 
 pub returns : goal.returns
+unfolding join_answer
 returns c =
     let a = c.args in
-    outcome_as (after a.east.now a.north.now a.east2.now a.north2.now a.out_east.now a.out_north.now a.scratch.now c.in_ok-two_rings.ensures)
+    let r = joined a.east.now a.north.now a.east2.now a.north2.now in
+    outcome_as
+    (all_pass a.east.now a.north.now a.east2.now a.north2.now a.scratch.now (own a.out_east.now a.out_north.now r) r (sym c.in_ok-of_ring.ensures)
+    (sym c.in_ok-of_ring-2.ensures) (omega arith) (omega arith))
     c.write_join.ensures

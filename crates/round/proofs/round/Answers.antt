@@ -1,4 +1,4 @@
-use Rattle.std.specs.Prelude.{◌≡◌, ℕ, false, List, drop, length, ℤ, ◌++◌, Err}
+use Rattle.std.specs.Prelude.{◌≡◌, false, length, ℤ, Err}
 use Rattle.std.specs.Int.{w32, w64}
 use Rattle.std.proofs.Common.{rules, sym, ap, ◌∙◌, subst, to_z, of_z}
 use mir.Val.{SFits}
@@ -20,8 +20,7 @@ round_of-said-requires c =
     let a = c.args in
     let said = λ (z : ℤ). said_of_tests a.east.now a.north.now a.list.now z (length a.scratch.now) in
     let passed = ap said (sym (a-is c.ranges.a)) ∙ sym c.tested.ensures ∙ ap answer_of c.in_ok-tested.was in
-    let put = ap (λ (l : List ℕ). l ++ drop (length a.list.now) a.scratch.now) c.copy_from_slice.ensures.after in
-    round_asks a.scratch.now (ready a.east.now a.north.now a.list.now a.a (length a.scratch.now) passed) put
+    round_asks a.scratch.now (ready a.east.now a.north.now a.list.now a.a (length a.scratch.now) passed) c.write.ensures
 
 pub invariant_of-side : goal.invariant_of-side
 invariant_of-side c =
@@ -44,13 +43,12 @@ returns c =
     let a = c.args in
     let said = λ (z : ℤ). said_of_tests a.east.now a.north.now a.list.now z (length a.scratch.now) in
     let passed = ap said (sym (a-is c.ranges.a)) ∙ sym c.tested.ensures ∙ ap answer_of c.in_ok-tested.was in
-    let put = ap (λ (l : List ℕ). l ++ drop (length a.list.now) a.scratch.now) c.copy_from_slice.ensures.after in
     let r = ready a.east.now a.north.now a.list.now a.a (length a.scratch.now) passed in
     let o = c.round_of-said in
     let says =
-    subst (λ (z : ℤ). RoundSays (at a.east.now a.north.now false) z (c.copy_from_slice.new.self ++ drop (length a.list.now) a.scratch.now) (length a.list.now) o.result o.new.w) (a-is c.ranges.a) o.ensures
+    subst (λ (z : ℤ). RoundSays (at a.east.now a.north.now false) z c.write.new.output (length a.list.now) o.result o.new.w) (a-is c.ranges.a) o.ensures
     in
     passed_promise a.east.now a.north.now a.list.now a.a a.output.now a.scratch.now passed o.result o.new.w
-    (o.auto.w ∙ as_long a.scratch.now r put)
-    (round-here a.scratch.now r put a.a says)
+    (o.auto.w ∙ as_long a.scratch.now r c.write.ensures)
+    (round-here a.scratch.now r c.write.ensures a.a says)
     c.answered.ensures

@@ -45,7 +45,7 @@ returns-then-is_empty c =
       | then-is_empty-via-then-is_empty w ↦ empty_first a.east.now a.north.now (streams a.east2.now a.north2.now) (search rules)
       | then-is_empty-via-else-is_empty+then-is_empty-2 w ↦ empty_second (streams a.east.now a.north.now) a.east2.now a.north2.now (search rules)
     ] in
-    let cleared : c.fill.new.self ≡ zeros a.scratch.now = search rules in
+    let cleared : c.clear.new.w ≡ zeros a.scratch.now = search rules in
     outcome_as
     (after a.east.now a.north.now a.east2.now a.north2.now a.out_east.now a.out_north.now a.scratch.now c.in_ok-two_rings.ensures
     ∙ near_passes a.out_east.now a.out_north.now s (nothing-beyond empty))

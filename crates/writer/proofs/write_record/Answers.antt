@@ -8,7 +8,7 @@ use Rattle.rules.specs.Entries.{counted, form_tests, write_answer}
 use Rattle.laws_refusals.specs.NoneHold.{none_either, when_done}
 use Rattle.laws_records.specs.InSense.{sense-length}
 use Rattle.laws_records.specs.OneRecord.{corners_size, sense_bytes_size, rest_size, record_size}
-use Rattle.samples.specs.Answers.{answer_of, number_of}
+use Rattle.samples.specs.Answers.{answer_of}
 use Rattle.samples.specs.Forms.{version_byte, sense_byte}
 use Rattle.samples.specs.InOrder.{then_answer, answer_by, refuses, passes, sampled_few}
 use Rattle.samples.specs.Samples.{streams-length}
@@ -138,16 +138,14 @@ is_envelope-is-requires c = let a = c.args in lists_near (good a.east.now a.nort
 pub returns-then-not-is : goal.returns-then-not-is
 returns-then-not-is c =
     let a = c.args in
-    let l = left_as_it_is (Err c.into.result) (ap (λ r. refused (number_of r.reason) r.place) c.into.ensures)
-    (nine a.east.now a.north.now a.out.now (a.version, a.sense) (form_as c.in_ok-form.form) c.in_ok-form.ensures (cc)) in
-    record { answer = l.0; out = l.1 }
+    let e = nine a.east.now a.north.now a.out.now (a.version, a.sense) (form_as c.in_ok-form.form) c.in_ok-form.ensures (cc) in
+    record { answer = search rules ∙ sym (ap counted e); out = sym (ap (λ (w : Answer (List ℕ)). output_after (λ bs. bs) w a.out.now) e) }
 
 pub returns-then-out-size : goal.returns-then-out-size
 returns-then-out-size c =
     let a = c.args in
-    let l = left_as_it_is (Err c.into-then-out-size.result) (ap (λ r. refused (number_of r.reason) r.place) c.into-then-out-size.ensures)
-    (five a.east.now a.north.now a.out.now (a.version, a.sense) (form_as c.in_ok-form.form) c.in_ok-form.ensures (cc) c.count.ensures (omega (arith, c.sense_size.ensures))) in
-    record { answer = l.0; out = l.1 }
+    let e = five a.east.now a.north.now a.out.now (a.version, a.sense) (form_as c.in_ok-form.form) c.in_ok-form.ensures (cc) c.count.ensures (omega (arith, c.sense_size.ensures)) in
+    record { answer = search rules ∙ sym (ap counted e); out = sym (ap (λ (w : Answer (List ℕ)). output_after (λ bs. bs) w a.out.now) e) }
 
 pub put_corners-requires-clause-near : goal.put_corners-requires-clause-near
 put_corners-requires-clause-near c = let a = c.args in lists_near (good a.east.now a.north.now a.out.now (a.version, a.sense) (form_as c.in_ok-form.form) c.in_ok-form.ensures).0

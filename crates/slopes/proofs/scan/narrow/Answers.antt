@@ -1,6 +1,6 @@
 use Rattle.std.proofs.Common.{◌≡◌, ℕ, ◌*◌, ◌<◌, get_or, drop, sym, ap, ◌∙◌, arith, get_or-drop}
 use Rattle.slopes.specs.ScratchLaws.{near_of}
-use Rattle.slopes.specs.PassLaws.{roomy, kept-alike}
+use Rattle.slopes.specs.PassLaws.{roomy, kept-alike, kept-count}
 use Rattle.slopes.specs.PivotSteps.{narrowed_below, narrowed_above, narrowed_none}
 use Rattle.slopes.proofs.scan.narrow.Goals as goal
 
@@ -15,7 +15,7 @@ returns-then-r-below c =
 pub returns-then-r-upto : goal.returns-then-r-upto
 returns-then-r-upto c =
     let p = c.part-below.ensures in
-    narrowed_none c.requires.0 c.requires.1 p.below-kept p.above_kept c.if-r-below.false c.if-r-upto.true
+    narrowed_none c.requires.0 c.requires.1 (kept-count p.below-kept) (kept-count p.above_kept) c.if-r-below.false c.if-r-upto.true
 
 pub returns : goal.returns
 returns c =

@@ -71,7 +71,7 @@ returns-then-too_short c =
     let some = c.args.first.one.some in
     let some2 = c.args.second.one.some in
     let a = c.args in
-    let cleared : c.fill.new.self ≡ zeros a.scratch.now = search rules in
+    let cleared : c.clear.new.w ≡ zeros a.scratch.now = search rules in
     short (sum (streams a.first.east.now a.first.north.now) (streams a.second.east.now a.second.north.now)) _
     (size p some some2 c.scan-h.ensures c.scan-g.ensures c.count-corners.ensures c.left_in-part.ensures) a.out_east.now a.out_north.now
     a.scratch.now cleared (ap (λ (r : Refusal). answer_of (Err r)) c.into.ensures) (sym c.too_short.ensures ∙ c.if-too_short.true)
@@ -103,7 +103,7 @@ returns c =
     let whole = sum (streams a.first.east.now a.first.north.now) (streams a.second.east.now a.second.north.now) in
     let parts = sum-parts p some some2 c.scan-h.ensures c.scan-g.ensures c.left_in-part.ensures in
     let o = in_order p some some2 c.scan-h.ensures c.scan-g.ensures c.left_in-part.ensures in
-    let cleared : c.fill.new.self ≡ zeros a.scratch.now = search rules in
+    let cleared : c.clear.new.w ≡ zeros a.scratch.now = search rules in
     done whole (n + (q.end - q.start)) (size p some some2 c.scan-h.ensures c.scan-g.ensures c.count-corners.ensures c.left_in-part.ensures)
     a.out_east.now a.out_north.now a.scratch.now cleared (sym c.too_short.ensures ∙ c.if-too_short.false)
     (both-written (λ t. t.east) whole _ _ q.start q.end n a.out_east.now c.put.new.out_east c.put-2.new.out_east parts c.count-corners.ensures o.0
